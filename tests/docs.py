@@ -244,7 +244,7 @@ def has_test(folder, module, name):
     if not name.isupper():
         return f"#[test]\nfn {name}(" in text
     lists = text_of(f"{folder}/tables.rt") + text_of(f"{folder}.rt")
-    return f"const {name}: &str =" in text and f", {module}::{name})" in lists
+    return f"const {name}: &str =" in text and re.search(rf"\b{module}::{name}[,)\]]", lists) is not None
 
 
 def text_of(path):

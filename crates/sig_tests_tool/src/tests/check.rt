@@ -2,7 +2,7 @@
 
 /// What the front refuses: a program for each rule on tokens, names, kinds, calls, pragmas and delays, and a long
 /// one.
-pub const FRONT: &str = r#"
+pub const FRONT: &str = r#"check::FRONT
 status: 1
 
 $ check P
@@ -47,7 +47,7 @@ err: error: program longer than 1048576 bytes\n
 "#;
 
 /// Programs that are refused as a whole.
-pub const WHOLE: &str = r"
+pub const WHOLE: &str = r"check::WHOLE
 status: 1
 
 $ check P
@@ -77,7 +77,7 @@ err: error 1:49: cycle through X\n
 ";
 
 /// The same refusals come of the commands that write more than a verdict.
-pub const PRODUCTS: &str = r"
+pub const PRODUCTS: &str = r"check::PRODUCTS
 $ check P
 P: process CYC = (? integer A ! integer X, Y)\n(| X := Y + 1 | Y := X - 1 | X ^= A |);
 err: error 1:38: cycle through X\n

@@ -5,7 +5,7 @@ use std::{fs, rt};
 
 /// Files that are not there, and files that fail. The program is read by the calls 1 to 3, and the flow file by
 /// those from 4 on.
-pub const READS: &str = r"
+pub const READS: &str = r"faults::READS
 P is SUM
 F: A 1\nB 1
 status: 5
@@ -35,7 +35,7 @@ err: error: F: read failed\n
 ";
 
 /// Sinks that fail. Without a text the first call of the sink is the flush.
-pub const SINKS: &str = r"
+pub const SINKS: &str = r"faults::SINKS
 P is SUM
 err: error: write failed\n
 status: 6
@@ -50,7 +50,7 @@ failing_write: 1
 ";
 
 /// No more is asked for than is needed: the call behind the last one that is needed fails where it is made.
-pub const UNASKED: &str = r"
+pub const UNASKED: &str = r"faults::UNASKED
 P: no program
 F: A 1
 failing_write: 1
@@ -71,7 +71,7 @@ status: 5
 ";
 
 /// The status stays where `err` fails at each call.
-pub const DEAF: &str = r"
+pub const DEAF: &str = r"faults::DEAF
 deaf: 20
 
 $ run P F

@@ -8,7 +8,10 @@ use std::thread;
 /// The turns after which a wait is given up: a test may not last so long.
 const VAIN: u64 = 200_000_000;
 
-/// The turns for which a cluster is held once the sink has a byte.
+/// The turns for which a cluster is held until the sink has a byte, if it gets one.
+const HELD: u64 = 2_000_000;
+
+/// The turns for which it is held then.
 const HELD_ON: u64 = 1_000_000;
 
 /// What is known of a cluster: how often it came to the gate, and at how many instants it returned from there.
@@ -19,8 +22,9 @@ struct Party {
 }
 
 /// A gate for the clusters 0 and 1, each of which passes at one instant after the other. At the first instant each
-/// waits for the other, which it cannot do on the thread of the other. At the second the cluster 1 waits for a byte of
-/// the sink, and then a while longer.
+/// waits for the other, which it cannot do on the thread of the other. At the second the cluster 1 waits a while for a
+/// byte of the sink, and then a while longer. That may be in vain: a thread that is held has perhaps not told yet the one
+/// of the sink, which rests, that it has sent something.
 #[derive(Drop)]
 struct Meeting {
     parties: (Party, Party),
@@ -44,6 +48,17 @@ impl Party {
     }
 }
 
+/// Waits until a word is set, for so many turns at most, and tells whether it is.
+fn comes(word: &AtomicU64, turns: u64) -> bool {
+    for _ in 0..turns {
+        if word.load(Ordering::SeqCst) > 0 {
+            return true;
+        }
+        thread::yield_now();
+    }
+    false
+}
+
 impl Meeting {
     fn new() -> Meeting {
         Meeting {
@@ -53,15 +68,11 @@ impl Meeting {
         }
     }
 
-    /// Waits until a word is set, however long the other threads are kept from a processor. A wait in vain fails the test.
-    fn wait_for(&self, word: &AtomicU64) {
-        for _ in 0..VAIN {
-            if word.load(Ordering::SeqCst) > 0 {
-                return;
-            }
-            thread::yield_now();
+    /// Waits for the other cluster, however long it is kept from a processor. A wait in vain fails the test.
+    fn meet(&self, other: &Party) {
+        if !comes(&other.came, VAIN) {
+            self.failures.fetch_add(1, Ordering::SeqCst);
         }
-        self.failures.fetch_add(1, Ordering::SeqCst);
     }
 
     /// The sink took this piece behind these lines. Where it has the first byte of an instant, both clusters must have
@@ -99,9 +110,9 @@ impl Gate for Meeting {
             self.failures.fetch_add(1, Ordering::SeqCst);
         }
         if instant == 1 {
-            self.wait_for(&other.came);
+            self.meet(other);
         } else if cluster == 1 && instant == 2 {
-            self.wait_for(&self.taken);
+            comes(&self.taken, HELD);
             for _ in 0..HELD_ON {
                 self.taken.load(Ordering::SeqCst);
             }

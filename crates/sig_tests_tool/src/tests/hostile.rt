@@ -4,7 +4,7 @@ use super::rows::Streams;
 use super::*;
 
 /// Each call of the files fails in turn, up to one that is not made.
-pub const READS: &str = r"
+pub const READS: &str = r"hostile::READS
 P is TWO
 F is TWO_FLOWS
 
@@ -39,7 +39,7 @@ err: end: input B exhausted after 3 instants\n
 ";
 
 /// Blanks behind a program up to the greatest length, and one more.
-pub const BLANKS: &str = r"
+pub const BLANKS: &str = r"hostile::BLANKS
 $ check P
 P is SUM
 + upto 1048576

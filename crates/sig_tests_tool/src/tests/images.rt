@@ -19,7 +19,7 @@ pub const READS: &str = "\0\0\0\0\x01\0\0\0\x01\0\0\0\x1a\0\0\0\0\
 pub const ADDS: &str = "\x01\0\0\0\x01\0\0\0\x01\0\0\0\x33\0\0\0\x02\x0c\x02\0\0\0\0\0\0\0\0\0\x01";
 
 /// The image of a program, and a program that has none.
-pub const BUILT: &str = r"
+pub const BUILT: &str = r"images::BUILT
 $ build P
 P is SUM
 out is SUM_IMAGE
@@ -30,7 +30,7 @@ status: 1
 ";
 
 /// What a run of a program does, does the run of its image.
-pub const RUNS: &str = r"
+pub const RUNS: &str = r"images::RUNS
 $ exec I F
 P is SUM
 I image P
@@ -78,7 +78,7 @@ status: 3
 ";
 
 /// The run of an image up to a limit.
-pub const LIMIT: &str = r"
+pub const LIMIT: &str = r"images::LIMIT
 $ exec I --instants=1 F
 P is SUM
 I is SUM_IMAGE
@@ -88,7 +88,7 @@ err: end: limit after 1 instants\n
 ";
 
 /// Images that are cut or not sound, flow files that are none, and an image that is not there.
-pub const REFUSED: &str = r"
+pub const REFUSED: &str = r"images::REFUSED
 P is SUM
 
 $ exec I F
@@ -135,7 +135,7 @@ status: 5
 ";
 
 /// A long image.
-pub const LONG: &str = r"
+pub const LONG: &str = r"images::LONG
 $ exec I F
 P is SUM
 I upto 67108865

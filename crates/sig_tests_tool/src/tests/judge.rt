@@ -1,7 +1,7 @@
 //! Verdicts on traces.
 
 /// Traces that are accepted, that break an equation or have a bad header, and programs that are refused.
-pub const TRACES: &str = r"
+pub const TRACES: &str = r"judge::TRACES
 $ judge P F
 P is SUM
 F: A B Y\n1 10 11\n. . .\n2 20 22\n

@@ -5,7 +5,7 @@
 ///
 /// A program past the nodes is refused with 8, one past the links or the signals with 1, and nothing is written.
 /// The one past the nodes is refused so, too, where `err` fails at each call.
-pub const LIMITS: &str = r##"
+pub const LIMITS: &str = r##"limits::LIMITS
 $ check P
 P: process P = (? integer A1
 + each 2 513: , A#

@@ -5,7 +5,7 @@ use super::rows::check;
 use super::*;
 
 /// The runs of three and of twelve stages, whose bytes another program counted.
-const COUNTED: &str = r"
+const COUNTED: &str = r"load::COUNTED
 err: end: input A exhausted after 20000 instants\n
 
 $ load 1 3
@@ -27,7 +27,7 @@ out: stages 12\ninstants 20000\nbytes 157865\nsum 7646580\n
 ";
 
 /// Each of the twelve generated programs is accepted and run to the end of its flows.
-pub const EACH: &str = r"
+pub const EACH: &str = r"load::EACH
 err: end: input A exhausted after 20000 instants\n
 
 $ load 1 1 --workers 0
@@ -58,5 +58,5 @@ out: stages 12\ninstants 20000\nbytes 157865\nsum 7646580\n
 
 #[test]
 fn counts_generated_runs(rt: HostRuntime) -> Result<(), Fail> {
-    check(&rt, "load::COUNTED", COUNTED)
+    check(&rt, COUNTED)
 }

@@ -1,7 +1,7 @@
 //! Paces: programs without a root, compiled, run and played with the flag `--pace`.
 
 /// Runs of parts at their paces, and of a program that has a root.
-pub const RUNS: &str = r"
+pub const RUNS: &str = r"paces::RUNS
 APART: process TWO = (? integer U, V ! integer Y, Z)\n(| Y := U + 1 | Z := V + 1 |);
 BOTH: pace_1 true false true\npace_2 true true false\nU 1 2\nV 10 20\n
 $ run P F --pace
@@ -44,7 +44,7 @@ status: 1
 ";
 
 /// Programs that are compiled with paces, and such as are refused.
-pub const COMPILED: &str = r"
+pub const COMPILED: &str = r"paces::COMPILED
 APART: process TWO = (? integer U, V ! integer Y, Z)\n(| Y := U + 1 | Z := V + 1 |);
 F:
 
@@ -102,7 +102,7 @@ out: pace_1 pace_2\n  U Y\n  V Z\n
 ";
 
 /// Each pace adds two signals: the inputs A and V, and 506 or 507 sums of A.
-pub const LIMIT: &str = r"
+pub const LIMIT: &str = r"paces::LIMIT
 F:
 
 $ check --pace P
@@ -123,7 +123,7 @@ status: 1
 ";
 
 /// A play of parts at their paces.
-pub const PLAYS: &str = r"
+pub const PLAYS: &str = r"paces::PLAYS
 APART: process TWO = (? integer U, V ! integer Y, Z)\n(| Y := U + 1 | Z := V + 1 |);
 BOTH: pace_1 true false true\npace_2 true true false\nU 1 2\nV 10 20\n
 $ play P F V --pace

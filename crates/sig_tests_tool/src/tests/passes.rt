@@ -6,7 +6,7 @@ use super::*;
 /// The cluster 1 of TWO has no value at the instant 4, to which the other one must come, too; it may go on while its
 /// links have room. With a limit of two instants both pass once more, at the one that ends them. No cluster of the load
 /// comes past the instant at which A, of the cluster 0, has no value.
-const PASSES: &str = r"
+const PASSES: &str = r"passes::PASSES
 P is TWO
 F is TWO_FLOWS
 
@@ -50,5 +50,5 @@ err: end: input A exhausted after 20000 instants\n
 
 #[test]
 fn each_cluster_passes_each_instant_once(rt: HostRuntime) -> Result<(), Fail> {
-    check(&rt, "passes::PASSES", PASSES)
+    check(&rt, PASSES)
 }

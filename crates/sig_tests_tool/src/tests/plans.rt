@@ -1,7 +1,7 @@
 //! Programs that are accepted, the hierarchies of their clocks, and their code.
 
 /// Programs that are accepted.
-pub const ACCEPTED: &str = r"
+pub const ACCEPTED: &str = r"plans::ACCEPTED
 out: accepted\n
 
 $ check P
@@ -21,7 +21,7 @@ P stages
 ";
 
 /// The hierarchies of clocks.
-pub const TREES: &str = r"
+pub const TREES: &str = r"plans::TREES
 $ tree P
 P is DOWN
 out: Y ZY\n  A\n
@@ -31,14 +31,14 @@ out: A B\n  V X\n
 ";
 
 /// The code of two actors.
-pub const CODE: &str = r"
+pub const CODE: &str = r"plans::CODE
 $ code P
 P is SUM
 out: actor 0\n0 0 read A\n1 2 read B\n2 4 compute Y\n3 5 send 0\n4 6 report 1\nactor 1\n0 5 receive 0\n1 6 collect 1\n2 7 commit\n
 ";
 
 /// A sink without room for the whole text has a prefix of it.
-pub const PREFIXES: &str = r"
+pub const PREFIXES: &str = r"plans::PREFIXES
 P is SUM
 room: 3
 err: error: write failed\n

@@ -1,7 +1,7 @@
 //! Plays: events of all actors, and from there the run to its end.
 
 /// Plays over links of one item and of the default capacity.
-pub const PLAYS: &str = r#"
+pub const PLAYS: &str = r#"play::PLAYS
 BOTH: process TWO = (? integer A, B ! integer Y, Z) pragmas RunOn {B, Z} "1" end pragmas (| Y := A * A | Z := B + 1 | A ^= B |);
 CAUSE: events done\nactor 0 1 1 ended\nactor 1 1 0 ended\nactor 2 1 0 running\nlink 0 0\nlink 1 0\nlink 2 0\nlink 3 0\nword 1 2\nfinish\n
 $ play P F V --capacity 1

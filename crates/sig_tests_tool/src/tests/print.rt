@@ -1,7 +1,7 @@
 //! Canonical texts, and texts that are no program.
 
 /// Canonical texts.
-pub const PRINTED: &str = r"
+pub const PRINTED: &str = r"print::PRINTED
 $ print P
 P is SUM
 out: process SUM = ( ? integer A , B ! integer Y ) Y := A + B ;\n
@@ -11,7 +11,7 @@ out: process K = ( ? integer A ! integer Y ) Y := A - ( A - A ) $ 1 init 0 * A ;
 ";
 
 /// Texts that are no program.
-pub const REFUSED: &str = r"
+pub const REFUSED: &str = r"print::REFUSED
 status: 1
 
 $ print P

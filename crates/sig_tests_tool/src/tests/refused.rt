@@ -1,7 +1,7 @@
 //! Programs and flow files that are refused.
 
 /// Programs that are refused.
-pub const PROGRAMS: &str = r"
+pub const PROGRAMS: &str = r"refused::PROGRAMS
 F: A 1
 status: 1
 
@@ -23,7 +23,7 @@ err: error: program longer than 1048576 bytes\n
 ";
 
 /// Flow files that are refused.
-pub const FLOWS: &str = r"
+pub const FLOWS: &str = r"refused::FLOWS
 status: 4
 
 $ run P F
@@ -86,7 +86,7 @@ err: error: F: more than 4000000 values\n
 ";
 
 /// A long flow file.
-pub const LONG: &str = r"
+pub const LONG: &str = r"refused::LONG
 $ run P F
 P is TWICE
 F upto 67108865

@@ -1,7 +1,8 @@
 //! Rows of tables: each is a call, with what it must write and answer. One loop calls them all.
 //!
-//! A row begins with a line `$ WORDS`, the words of the call. Each other line begins with the name of a text, and adds
-//! to a text of this name that is new; with `+` in its place, to the text of the line before:
+//! The first line of a table is its name. A row begins with a line `$ WORDS`, the words of the call. Each other line
+//! begins with the name of a text, and adds to a text of this name that is new; with `+` in its place, to the text of the
+//! line before:
 //!
 //!     NAME: TEXT               this text, in which \n, \r, \t, \s and \\ are one byte each, \s a blank
 //!     NAME each 2 9: TEXT      this text for each number from 2 to 9, which stands for #, and the next one for @
@@ -11,8 +12,8 @@
 //!     NAME byte 128            this byte
 //!     NAME upto 99             blanks up to this length; what is past it is cut off
 //!
-//! Of two texts of one name the later one counts. The lines before the first row, and before them `TEXTS`, are of each
-//! row; those that begin with `%` are comments. What must come is told by `out`, `err` and `status` (0 where it is left out), by
+//! Of two texts of one name the later one counts. The lines between the name and the first row, and before them `TEXTS`,
+//! are of each row; those that begin with `%` are comments. What must come is told by `out`, `err` and `status` (0 where it is left out), by
 //! `passes`, how often each of the clusters 0 to 3 passes the gate, and all others together, at least and at most, and by
 //! `unasked: 1`: no call of the files or the output was made that would have failed. `room` is the room of the output;
 //! `failing_read` and `failing_write` are the numbers of the calls of the files and of the output that fail, and with
@@ -428,15 +429,12 @@ fn check_row<R: Threads + Wait + Sync + AllocGlobal>(
 }
 
 /// Calls each row of a table.
-pub fn check<R: Threads + Wait + Sync + AllocGlobal>(
-    rt: &R,
-    table: &str,
-    text: &str,
-) -> Result<(), Fail> {
-    let mut rows = text.split("\n$");
+pub fn check<R: Threads + Wait + Sync + AllocGlobal>(rt: &R, table: &str) -> Result<(), Fail> {
+    let mut rows = table.split("\n$");
     let head = rows.next().unwrap_or("");
+    let (name, head) = head.split_once('\n').unwrap_or((head, ""));
     for (number, row) in rows.enumerate() {
-        check_row(rt, (table, number), head, row)?;
+        check_row(rt, (name, number), head, row)?;
     }
     Ok(())
 }

@@ -1,7 +1,7 @@
 //! Runs to their end.
 
 /// Runs that end because there is no further value.
-pub const ENDS: &str = r"
+pub const ENDS: &str = r"run::ENDS
 $ run P F
 P is SUM
 F: A 1 2 3\nB 10 20
@@ -58,7 +58,7 @@ err: end: input A exhausted after 2 instants\n
 ";
 
 /// Runs that an equation ends, and a quotient that is none.
-pub const EQUATIONS: &str = r"
+pub const EQUATIONS: &str = r"run::EQUATIONS
 $ run P F
 P is DIFFERENCE
 F: A -9223372036854775808\nB 1
@@ -95,7 +95,7 @@ err: end: input A exhausted after 1 instants\n
 ";
 
 /// A run that the limit ends.
-pub const LIMIT: &str = r"
+pub const LIMIT: &str = r"run::LIMIT
 $ run P F --instants 3
 P: process N = (? ! integer N) N := (N $ init 0) + 1;
 F:
@@ -104,7 +104,7 @@ err: end: limit after 3 instants\n
 ";
 
 /// A million instants, which are the most by default.
-pub const MILLION: &str = r"
+pub const MILLION: &str = r"run::MILLION
 $ run P F --workers 0
 P is TWICE
 F: A
@@ -115,7 +115,7 @@ err: end: limit after 1000000 instants\n
 ";
 
 /// Links that hold 16,777,216 items together, and links that would hold more.
-pub const ITEMS: &str = r"
+pub const ITEMS: &str = r"run::ITEMS
 $ run P F --workers=0 --instants 1 --capacity 65536
 P: process WIDE = (? integer A ! integer Y1
 + each 2 255: , Y#

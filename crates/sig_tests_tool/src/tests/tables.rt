@@ -1,89 +1,86 @@
-//! The tables whose rows are called here, in lists of a few: each state of a loop over a list has all of its texts.
+//! The tables whose rows are called here, in lists of a few: each function that names a list has all of its texts, so one
+//! that names none has the loop.
 
 use super::*;
 
 /// Programs that are compiled, or refused.
-const PROGRAMS: [(&str, &str); 11] = [
-    ("check::FRONT", check::FRONT),
-    ("check::WHOLE", check::WHOLE),
-    ("check::PRODUCTS", check::PRODUCTS),
-    ("print::PRINTED", print::PRINTED),
-    ("print::REFUSED", print::REFUSED),
-    ("plans::ACCEPTED", plans::ACCEPTED),
-    ("plans::TREES", plans::TREES),
-    ("plans::CODE", plans::CODE),
-    ("plans::PREFIXES", plans::PREFIXES),
-    ("paces::COMPILED", paces::COMPILED),
-    ("paces::LIMIT", paces::LIMIT),
+const PROGRAMS: [&str; 11] = [
+    check::FRONT,
+    check::WHOLE,
+    check::PRODUCTS,
+    print::PRINTED,
+    print::REFUSED,
+    plans::ACCEPTED,
+    plans::TREES,
+    plans::CODE,
+    plans::PREFIXES,
+    paces::COMPILED,
+    paces::LIMIT,
 ];
 
 /// Runs, plays and traces.
-const RUNS: [(&str, &str); 10] = [
-    ("run::ENDS", run::ENDS),
-    ("run::EQUATIONS", run::EQUATIONS),
-    ("run::LIMIT", run::LIMIT),
-    ("run::ITEMS", run::ITEMS),
-    ("workers::WORKERS", workers::WORKERS),
-    ("play::PLAYS", play::PLAYS),
-    ("paces::RUNS", paces::RUNS),
-    ("paces::PLAYS", paces::PLAYS),
-    ("judge::TRACES", judge::TRACES),
-    ("stored::STORED", stored::STORED),
+const RUNS: [&str; 10] = [
+    run::ENDS,
+    run::EQUATIONS,
+    run::LIMIT,
+    run::ITEMS,
+    workers::WORKERS,
+    play::PLAYS,
+    paces::RUNS,
+    paces::PLAYS,
+    judge::TRACES,
+    stored::STORED,
 ];
 
 /// Words, and files that are none.
-const INPUTS: [(&str, &str); 10] = [
-    ("words::OPTIONS", words::OPTIONS),
-    ("words::REFUSED", words::REFUSED),
-    ("refused::PROGRAMS", refused::PROGRAMS),
-    ("refused::FLOWS", refused::FLOWS),
-    ("refused::LONG", refused::LONG),
-    ("images::BUILT", images::BUILT),
-    ("images::RUNS", images::RUNS),
-    ("images::LIMIT", images::LIMIT),
-    ("images::REFUSED", images::REFUSED),
-    ("images::LONG", images::LONG),
+const INPUTS: [&str; 10] = [
+    words::OPTIONS,
+    words::REFUSED,
+    refused::PROGRAMS,
+    refused::FLOWS,
+    refused::LONG,
+    images::BUILT,
+    images::RUNS,
+    images::LIMIT,
+    images::REFUSED,
+    images::LONG,
 ];
 
 /// Files and sinks that fail.
-const FAULTS: [(&str, &str); 6] = [
-    ("faults::READS", faults::READS),
-    ("faults::SINKS", faults::SINKS),
-    ("faults::UNASKED", faults::UNASKED),
-    ("faults::DEAF", faults::DEAF),
-    ("hostile::READS", hostile::READS),
-    ("hostile::BLANKS", hostile::BLANKS),
+const FAULTS: [&str; 6] = [
+    faults::READS,
+    faults::SINKS,
+    faults::UNASKED,
+    faults::DEAF,
+    hostile::READS,
+    hostile::BLANKS,
 ];
 
 /// Those with rows that take longer.
-const LONG: [(&str, &str); 2] = [("run::MILLION", run::MILLION), ("load::EACH", load::EACH)];
+const LONG: [&str; 2] = [run::MILLION, load::EACH];
 
-fn programs<R: Threads + Wait + Sync + AllocGlobal>(rt: &R) -> Result<(), Fail> {
-    for (name, table) in &PROGRAMS {
-        check(rt, name, table)?;
+/// Calls each row of these tables.
+fn check_all<R: Threads + Wait + Sync + AllocGlobal>(rt: &R, tables: &[&str]) -> Result<(), Fail> {
+    for table in tables {
+        check(rt, table)?;
     }
     Ok(())
+}
+
+fn programs<R: Threads + Wait + Sync + AllocGlobal>(rt: &R) -> Result<(), Fail> {
+    check_all(rt, &PROGRAMS)
 }
 
 fn runs<R: Threads + Wait + Sync + AllocGlobal>(rt: &R) -> Result<(), Fail> {
-    for (name, table) in &RUNS {
-        check(rt, name, table)?;
-    }
-    Ok(())
+    check_all(rt, &RUNS)
 }
 
 fn inputs<R: Threads + Wait + Sync + AllocGlobal>(rt: &R) -> Result<(), Fail> {
-    for (name, table) in &INPUTS {
-        check(rt, name, table)?;
-    }
-    Ok(())
+    check_all(rt, &INPUTS)
 }
 
 fn faults<R: Threads + Wait + Sync + AllocGlobal>(rt: &R) -> Result<(), Fail> {
-    for (name, table) in &FAULTS {
-        check(rt, name, table)?;
-    }
-    Ok(())
+    check_all(rt, &FAULTS)
 }
 
 #[test]
@@ -96,14 +93,11 @@ fn rows_are_answered(rt: HostRuntime) -> Result<(), Fail> {
 
 #[test]
 fn long_rows_are_answered(rt: HostRuntime) -> Result<(), Fail> {
-    for (name, table) in &LONG {
-        check(&rt, name, table)?;
-    }
-    Ok(())
+    check_all(&rt, &LONG)
 }
 
 /// Those past a limit of the compiler take the longest.
 #[test]
 fn limits_are_asked_for(rt: HostRuntime) -> Result<(), Fail> {
-    check(&rt, "limits::LIMITS", limits::LIMITS)
+    check(&rt, limits::LIMITS)
 }

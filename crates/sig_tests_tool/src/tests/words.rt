@@ -1,7 +1,7 @@
 //! Options, and words that are no command.
 
 /// Runs of the same sums, with options.
-pub const OPTIONS: &str = r"
+pub const OPTIONS: &str = r"words::OPTIONS
 P is SUM
 F: A 1 2 3\nB 10 20
 out: Y 11\nY 22\n
@@ -21,7 +21,7 @@ err: end: input B exhausted after 2 instants\n
 ";
 
 /// Words that are no command.
-pub const REFUSED: &str = r"
+pub const REFUSED: &str = r"words::REFUSED
 P is SUM
 F: A 1\nB 1
 err: error: these words are not a command\n

@@ -2,7 +2,7 @@
 
 /// Runs with links of one item and each of several numbers of workers. The text, the line and the status are the
 /// same whatever the number of workers, also where an equation of one cluster ends the run.
-pub const WORKERS: &str = r"
+pub const WORKERS: &str = r"workers::WORKERS
 $ run P F --capacity 1 --workers 0
 P is TWO
 F: A 1 2 3 4 5 6\nB 10 20 30
