@@ -1,5 +1,5 @@
 -- Instructions that take no value of an input.
-use Rattle.sig_machine.proofs.Common.{◌≡◌, ◌∙◌, ℕ, ℤ, List, Option, None, Some, IfSome, IsSomeAnd, refl, sym, subst, ComesTo, IsKept, IsPut, input_id, input_taken, taken_after, Instruction, Work, Next, Copy, One, Two, Machine}
+use Rattle.sig_machine.proofs.Common.{◌≡◌, ◌∙◌, ℕ, ℤ, List, None, Some, refl, sym, IsKept, IsPut, input_id, input_taken, taken_after, Instruction, Work, Next, Copy, One, Two, Machine}
 
 pub taken_stays : (work : Work) (taken : List ℕ) → input_taken work ≡ None → taken_after work taken ≡ taken
 taken_stays (Next input) taken stays = absurd (let some : Some (input_id input) ≡ None = stays in cc)
@@ -16,8 +16,3 @@ kept_by instruction value old new put stays = record {
   stamps = put.stamps;
   taken = put.taken ∙ sym (taken_stays instruction.work old.taken.items stays);
 }
-
--- what an opcode comes to is what the work comes to that it means
-pub comes_to : (o : Option Work) (m : Machine) (v : ℤ) (work : Work) → IfSome o (λ w. w ≡ work) → IsSomeAnd o (ComesTo m v) → ComesTo m v work
-comes_to None m v work same comes = absurd comes
-comes_to (Some w) m v work same comes = subst (ComesTo m v) same comes

@@ -1,6 +1,6 @@
 -- Instructions stay right where cells of constants are added.
 use Rattle.sig_machine.proofs.Common.{◌≡◌, ◌≤◌, ◌++◌, ◌∙◌, inl, inr, ℕ, ℤ, List, [], ◌∷◌, length, Some, sym, subst, slice_get, arith, length-append, Kernel, PlanView, Op, StandsAt, one_at, IsFor, HaveConstants, Grows, ReadsWithin, Instruction, Work, Next, Copy, One, Two}
-use Rattle.sig_machine.proofs.InARow.{get_push}
+use Rattle.sig_lists.proofs.Joined.{get_pushed}
 use Rattle.sig_machine.proofs.Openings.{cell_front}
 
 reads_more : (inputs few many : ℕ) (work : Work) → few ≤ many → ReadsWithin inputs few work → ReadsWithin inputs many work
@@ -27,14 +27,14 @@ for_grows kernel cells more op instruction is =
     }
 
 -- the instructions of the first places
-abbrev pub AreFor : PlanView → Kernel → List ℤ → List Instruction → Type 0
-AreFor plan kernel cells instructions = (place : ℕ) (instruction : Instruction) → slice_get instructions place ≡ Some instruction → (op : Op) → StandsAt plan place op → IsFor kernel cells op instruction
+abbrev pub AreForFirst : PlanView → Kernel → List ℤ → List Instruction → Type 0
+AreForFirst plan kernel cells instructions = (place : ℕ) (instruction : Instruction) → slice_get instructions place ≡ Some instruction → (op : Op) → StandsAt plan place op → IsFor kernel cells op instruction
 
-pub one_more : (plan : PlanView) (kernel : Kernel) (old new : List ℤ) (instructions : List Instruction) (instruction : Instruction) (op : Op) → AreFor plan kernel old instructions → Grows old new
-    → StandsAt plan (length instructions) op → IsFor kernel new op instruction → AreFor plan kernel new (instructions ++ instruction ∷ [])
-one_more plan kernel old new instructions instruction op are (more, grown) stands is = λ place other at that there. elim (get_push instructions instruction other place at) [
+pub one_more : (plan : PlanView) (kernel : Kernel) (old new : List ℤ) (instructions : List Instruction) (instruction : Instruction) (op : Op) → AreForFirst plan kernel old instructions → Grows old new
+    → StandsAt plan (length instructions) op → IsFor kernel new op instruction → AreForFirst plan kernel new (instructions ++ instruction ∷ [])
+one_more plan kernel old new instructions instruction op are (more, grown) stands is = λ place other at that there. elim (get_pushed instructions instruction place other at) [
   | inl before ↦ subst (λ (cells : List ℤ). IsFor kernel cells that other) (sym grown) (for_grows kernel old more that other (are place other before that there))
   | inr last ↦
-      subst (λ (i : Instruction). IsFor kernel new that i) (sym last.1)
+      subst (λ (i : Instruction). IsFor kernel new that i) last.1
       (subst (λ (o : Op). IsFor kernel new o instruction) (one_at plan place op that (subst (λ n. StandsAt plan n op) (sym last.0) stands) there) is)
 ]

@@ -1,5 +1,5 @@
 -- One instruction of a machine that is amid an instant.
-use Rattle.sig_machine.proofs.Common.{Bool, true, false, inl, inr, ◌≡◌, ◌<◌, ◌≤◌, ◌+◌, ◌∙◌, ℕ, zero, suc, ℤ, List, length, Some, Ok, Err, is_some, IfSome, refl, sym, ap, subst, Contains, slice_get, arith, SigId, Instant, Trace, AreFlowsFor, test, IsAccepted, PlanView, numbers_of, operation_in, operations_in, Cause, Op, Actor, truths_of, place_at, Faults, Gives, Outcome, outcome, own_present, abstraction_of, read_present, seen_at, answered, IsAmid, stepped, StandsAt, guard_known, here, reads_known, compiled, fault_end, is_next, keeps, speaks, done_behind, passed_over, EndsBy, GoesOn, ended_behind, HasReads, IsFor, IsRun, IsTarget, Lowers, IsMachineOf, actor_at, registers_of, IsKept, ReadsWithin, as_named, came_to, input_taken, named, Instruction, Lowered, Run, Machine, fitting, flow_count, Work, Next, Copy, One, Two}
+use Rattle.sig_machine.proofs.Common.{true, inl, inr, ◌≡◌, ◌<◌, ◌+◌, ◌∙◌, ℕ, ℤ, List, length, Some, Ok, Err, is_some, IfSome, refl, sym, ap, subst, Contains, slice_get, arith, SigId, Instant, Trace, AreFlowsFor, test, IsAccepted, PlanView, numbers_of, operation_in, operations_in, Cause, Op, Actor, truths_of, place_at, Faults, Gives, Outcome, outcome, own_present, abstraction_of, read_present, seen_at, answered, IsAmid, stepped, StandsAt, guard_known, here, reads_known, compiled, fault_end, is_next, keeps, speaks, done_behind, EndsBy, GoesOn, ended_behind, HasReads, IsFor, IsTarget, Lowers, IsMachineOf, actor_at, registers_of, IsKept, ReadsWithin, as_named, came_to, instructions_in, input_taken, named, Instruction, Lowered, Machine, fitting, flow_count, Work, Next, Copy, One, Two}
 use Rattle.sig_machine.proofs.LeftValues.{behind, register_value, room_of}
 use Rattle.sig_machine.proofs.PlacesOfOrder.{stands_somewhere}
 
@@ -11,10 +11,6 @@ gives_it (Faults cause) v is = absurd (let e : Ok v ≡ Err cause = is in cc)
 pub faults_it : (o : Outcome) (cause : Cause) → Err cause ≡ answered o → o ≡ Faults cause
 faults_it (Gives w) cause is = absurd (let e : Err cause ≡ Ok w = is in cc)
 faults_it (Faults other) cause is = let e : Err cause ≡ Err other = is in let same : other ≡ cause = cc in ap Faults same
-
-pub none_where : (b : Bool) → (b ≡ true → ⊥) → b ≡ false
-none_where true not = absurd (not refl)
-none_where false not = refl
 
 module _ (plan : PlanView) (accepted : IsAccepted plan) (flows : List (List ℤ)) (fit : AreFlowsFor plan.kernel flows) where
   -- a guard's value at a place is that by the instant
@@ -62,28 +58,15 @@ module _ (plan : PlanView) (accepted : IsAccepted plan) (flows : List (List ℤ)
           fault_end plan accepted flows fit trace instant (actor_at m place) amid op stands on (named op.eq cause) fault limit below (ended_behind trace (named op.eq cause)) refl refl,
         )
 
-  -- ---- within a run of operations that have one guard
-
-  module _ (old : Machine) (first : ℕ) (run : Run) (is_run : IsRun plan first run) where
-    -- where it is false, all those behind it that are done only where it holds are passed over
-    pub passes : test plan.store.nodes run.guard (truths_of plan.clocks.conditions (registers_of old)) ≡ false → (k : ℕ) → first + k ≤ run.skip → GoesOn plan flows old first old (first + k)
-    passes off zero within trace instant amid = subst (λ n. IsAmid plan flows trace instant (actor_at old n)) (omega arith) amid
-    passes off (suc k) within trace instant amid =
-        let before : IsAmid plan flows trace instant (actor_at old (first + k)) = passes off k (omega (arith, within)) trace instant amid in
-        let (op, stands) = stands_somewhere plan accepted (first + k) (let b = is_run.within in omega (arith, within, b)) in
-        let passed = none_where (test plan.store.nodes op.guard (truths_of plan.clocks.conditions (registers_of old)))
-        (λ on. let clash : true ≡ false = sym (is_run.implied (first + k) (omega arith) (omega (arith, within)) op stands (truths_of plan.clocks.conditions (registers_of old)) on) ∙ off in cc) in
-        subst (λ n. IsAmid plan flows trace instant (actor_at old n)) (omega arith) (passed_over plan accepted flows fit trace instant (actor_at old (first + k)) before op stands passed)
-
   -- ---- what an instruction needs
 
   module _ (lowered : Lowered) (lowers : Lowers plan lowered) (m : Machine) (is : IsMachineOf plan lowered flows m) (place : ℕ) (instruction : Instruction)
-      (at : slice_get lowered.instructions.items place ≡ Some instruction) (within : place < length plan.order) where
+      (at : slice_get (instructions_in lowered.code) place ≡ Some instruction) (within : place < length plan.order) where
     standing : (op : Op) × StandsAt plan place op
     standing = stands_somewhere plan accepted place within
 
     for_op : IsFor plan.kernel lowered.cells.items standing.0 instruction
-    for_op = lowers.each place instruction at standing.0 standing.1
+    for_op = lowers.instructions.each place instruction at standing.0 standing.1
 
     inputs : length m.taken.items ≡ plan.kernel.inputs
     inputs = let a = is.inputs in let b = flow_count (fitting plan accepted flows fit) in omega (arith, a, b)
@@ -98,9 +81,6 @@ module _ (plan : PlanView) (accepted : IsAccepted plan) (flows : List (List ℤ)
       by : IsTarget plan.kernel standing.0 instruction.target → instruction.target < length m.cells.items
       by (inl (x, writes, none, below, same)) = let b = is.cells in let d = lowers.cells in let s = lowers.signals in omega (arith, below, same, b, d, s)
       by (inr (y, writes, some, below, same)) = let b = is.cells in let d = lowers.cells in let s = lowers.signals in omega (arith, below, same, b, d, s)
-
-    pub stamp_there : instruction.target < length m.stamps.items
-    stamp_there = let a = target_there in let b = is.cells in let d = is.stamps in omega (arith, a, b, d)
 
     pub input_there : IfSome (input_taken instruction.work) (λ x. x.0 < length m.taken.items)
     input_there = by instruction.work reads_there where

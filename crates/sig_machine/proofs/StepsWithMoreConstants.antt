@@ -1,17 +1,17 @@
 -- Instructions of steps stay right where cells of constants are added.
 use Rattle.sig_machine.proofs.Common.{◌≡◌, ◌++◌, ◌∷◌, ◌∙◌, [], inl, inr, ℤ, List, length, None, Some, sym, ap, subst, slice_get, Do, OpId, Op, Kernel, Step, StepKind, PlanView, AreForSteps, DoesOp, Grows, IsFor, IsForKind, Instruction}
 use Rattle.sig_machine.proofs.MoreConstants.{for_grows}
-use Rattle.sig_machine.proofs.InARow.{get_push}
+use Rattle.sig_lists.proofs.Joined.{get_pushed}
 use Rattle.sig_machine.proofs.Lists.{same_Some}
 
 pub one_more_step : (plan : PlanView) (steps : List Step) (old new : List ℤ) (instructions : List Instruction) (step : Step) (instruction : Instruction)
     → AreForSteps plan steps old instructions → Grows old new → slice_get steps (length instructions) ≡ Some step → IsForKind plan step.kind new instruction
     → AreForSteps plan steps new (instructions ++ instruction ∷ [])
-one_more_step plan steps old new instructions step instruction are (more, grown) here is = λ number that other at there. elim (get_push instructions instruction other number there) [
+one_more_step plan steps old new instructions step instruction are (more, grown) here is = λ number that other at there. elim (get_pushed instructions instruction number other there) [
   | inl before ↦ λ op does. subst (λ (cells : List ℤ). IsFor plan.kernel cells op other) (sym grown) (for_grows plan.kernel old more op other (are number that other at before op does))
   | inr last ↦
       let one : step ≡ that = same_Some step that (sym (ap (slice_get steps) last.0 ∙ here) ∙ at) in
-      subst (λ (i : Instruction). IsForKind plan that.kind new i) (sym last.1) (subst (λ (s : Step). IsForKind plan s.kind new instruction) one is)
+      subst (λ (i : Instruction). IsForKind plan that.kind new i) last.1 (subst (λ (s : Step). IsForKind plan s.kind new instruction) one is)
 ]
 
 -- a kind does one operation at most

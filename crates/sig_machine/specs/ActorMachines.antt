@@ -5,7 +5,7 @@ use Rattle.sig_machine.specs.Lowerings.{IsFor}
 use Rattle.sig_machine.specs.Machines.{IsMachineFor, actor_at, registers_at, registers_of}
 use Rattle.sig_machine.specs.inner.Truths.{AreVariables}
 use Rattle.sig_machine.specs.declared.actor.ActorMachine.{ActorMachine}
-use Rattle.sig_machine.specs.declared.instruction.Instruction.{Instruction}
+use Rattle.sig_cells.specs.declared.instruction.Instruction.{Instruction}
 
 abbrev pub instant_of : ActorMachine → ℕ
 instant_of a = a.machine.instant

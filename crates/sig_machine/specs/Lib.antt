@@ -3,5 +3,4 @@ pub mod ActorMachines
 pub mod Instants
 pub mod Lowerings
 pub mod Machines
-pub mod Opcodes
 pub mod inner

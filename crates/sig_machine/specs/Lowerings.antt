@@ -1,14 +1,14 @@
 -- The form of a plan in which a machine does it.
 use Rattle.std.specs.Prelude.{◌≡◌, ◌<◌, ◌≤◌, ◌+◌, ◌⊎◌, ◌∷◌}
-use Rattle.sig_machine.specs.Prelude.{ℕ, ℤ, List, [], length, slice_get, None, Some, Contains, EqId, SigId, Implies, Equation, Form, Fun, Delay, When, WhenConst, Default, Sync, Event, Kernel, signals_of, PlanView, Op, Read, Compute, initial_in, outcome, remembers, input_of, StandsAt}
+use Rattle.sig_machine.specs.Prelude.{ℕ, ℤ, List, [], length, slice_get, None, Some, Contains, EqId, SigId, Ref, Equation, Form, Fun, Delay, When, WhenConst, Default, Sync, Event, Kernel, signals_of, PlanView, Op, Read, Compute, initial_in, outcome, remembers, input_of, StandsAt}
 use Rattle.sig_machine.specs.Machines.{HaveConstants, actor_at, cell, memories_at, registers_of}
-use Rattle.sig_machine.specs.Opcodes.{AreCoded}
-use Rattle.sig_machine.specs.inner.Ways.{AreWays, IsFirst}
-use Rattle.sig_machine.specs.inner.Works.{ReadsWithin, as_named, came_to, input_taken}
-use Rattle.sig_machine.specs.declared.instruction.Instruction.{Instruction}
-use Rattle.sig_machine.specs.declared.instruction.Work.{Work}
+use Rattle.sig_cells.specs.Codes.{IsCode, guards_in, instructions_in, scope_in}
+use Rattle.sig_cells.specs.Guards.{scope_of}
+use Rattle.sig_cells.specs.Instructions.{ReadsWithin, input_taken}
+use Rattle.sig_cells.specs.declared.instruction.Instruction.{Instruction}
+use Rattle.sig_cells.specs.declared.instruction.Work.{Work}
+use Rattle.sig_machine.specs.inner.Works.{as_named, came_to}
 use Rattle.sig_machine.specs.declared.lowered.Lowered.{Lowered}
-use Rattle.sig_machine.specs.declared.lowered.Run.{Run}
 use Rattle.sig_machine.specs.declared.machine.Machine.{Machine}
 
 -- the signals whose values an equation of this form takes
@@ -52,33 +52,23 @@ pub record IsFor (kernel : Kernel) (cells : List ℤ) (op : Op) (instruction : I
   pub target : IsTarget kernel op instruction.target
   pub work : IsWorkOf kernel cells op instruction.work
 
--- Behind a place, up to the end of its run, all operations have one guard; and up to where it is left they are done only
--- where that guard holds.
-pub record IsRun (plan : PlanView) (place : ℕ) (run : Run) : Type 0 where
-  pub later : place < run.end
-  pub leaves : run.end ≤ run.skip
-  pub within : run.skip ≤ length plan.order
-  pub same : (other : ℕ) → place ≤ other → other < run.end → (op : Op) → StandsAt plan other op → op.guard ≡ run.guard
-  pub implied : (other : ℕ) → place ≤ other → other < run.skip → (op : Op) → StandsAt plan other op → Implies plan.store.nodes op.guard run.guard
+-- Instructions are for the operations of a plan, in its order.
+pub record AreFor (plan : PlanView) (cells : List ℤ) (instructions : List Instruction) : Type 0 where
+  pub count : length instructions ≡ length plan.order
+  pub each : (place : ℕ) (instruction : Instruction) → slice_get instructions place ≡ Some instruction → (op : Op) → StandsAt plan place op
+      → IsFor plan.kernel cells op instruction
 
--- a run that is left at this place
-abbrev pub IsLeft : PlanView → ℕ → Run → ℕ → Type 0
-IsLeft plan place run skip = IsRun plan place (record run { skip = skip })
-
--- the runs that begin at the first places
-abbrev pub AreRuns : PlanView → List Run → Type 0
-AreRuns plan runs = (place : ℕ) (run : Run) → slice_get runs place ≡ Some run → IsRun plan place run
+-- Guards are those of the operations of a plan, in its order.
+pub record AreGuardsOf (plan : PlanView) (guards : List Ref) : Type 0 where
+  pub count : length guards ≡ length plan.order
+  pub each : (place : ℕ) (guard : Ref) → slice_get guards place ≡ Some guard → (op : Op) → StandsAt plan place op → guard ≡ op.guard
 
 -- The instructions of a plan.
 pub record Lowers (plan : PlanView) (lowered : Lowered) : Type 0 where
   pub signals : lowered.signals ≡ length plan.kernel.signals
   pub cells : lowered.signals + lowered.signals ≤ length lowered.cells.items
   pub opening : memories_at lowered.signals lowered.cells.items ≡ initial_in plan.kernel.equations
-  pub count : length lowered.instructions.items ≡ length plan.order
-  pub each : (place : ℕ) (instruction : Instruction) → slice_get lowered.instructions.items place ≡ Some instruction
-      → (op : Op) → StandsAt plan place op → IsFor plan.kernel lowered.cells.items op instruction
-  pub runs : length lowered.runs.items ≡ length plan.order
-  pub run : AreRuns plan lowered.runs.items
-  pub coded : AreCoded lowered.instructions.items lowered.coded.items
-  pub first : IsFirst plan lowered.runs.items lowered.first
-  pub ways : AreWays plan lowered.runs.items lowered.ways.items
+  pub instructions : AreFor plan lowered.cells.items (instructions_in lowered.code)
+  pub guards : AreGuardsOf plan (guards_in lowered.code)
+  pub asks : scope_in plan.store.nodes lowered.code ≡ scope_of plan.store.nodes plan.clocks.conditions (length plan.kernel.signals)
+  pub code : IsCode plan.store.nodes plan.kernel.inputs (length lowered.cells.items) lowered.code

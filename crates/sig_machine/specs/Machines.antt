@@ -1,16 +1,9 @@
 -- The actor that a machine is: its cells are those of the signals, then those of the delays, then constants.
-use Rattle.std.specs.Prelude.{◌≡◌, ◌≤◌, ◌<◌, ◌+◌, ◌==◌, if◌then◌else◌}
-use Rattle.sig_machine.specs.Prelude.{ℕ, ℤ, pos, false, List, length, nat_lt, slice_get, slice_index_or, Option, None, Some, Seen, PlanView, Actor, Registers}
+use Rattle.std.specs.Prelude.{◌≡◌, ◌≤◌, ◌<◌, ◌+◌, if◌then◌else◌}
+use Rattle.sig_machine.specs.Prelude.{ℕ, ℤ, pos, false, List, length, nat_lt, slice_get, slice_index_or, None, Some, PlanView, Actor, Registers}
+pub use Rattle.sig_cells.specs.Instructions.{cell, stamped}
 use Rattle.sig_machine.specs.declared.lowered.Lowered.{Lowered}
 use Rattle.sig_machine.specs.declared.machine.Machine.{Machine}
-
-abbrev pub cell : List ℤ → ℕ → ℤ
-cell cells number = slice_index_or cells number (pos 0)
-
--- what a cell with a stamp holds of an instant: nothing, where it was written in another one
-abbrev pub stamped : ℕ → Option ℕ → ℤ → Seen
-stamped instant None value = None
-stamped instant (Some stamp) value = if stamp == instant then Some value else None
 
 -- what each signal is in the instant
 abbrev pub registers_of : Machine → Registers

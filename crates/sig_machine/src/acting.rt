@@ -5,8 +5,8 @@ ghost use Rattle.sig_machine.specs.Prelude.{ℕ, ℤ, List, IfSome, Some, length
 ghost use Rattle.sig_machine.specs.ActorMachines.{IsMachineOfActor, IsOpOfStep, IsStepDone, actor_in, instant_of, seen_in};
 
 use crate::actor::ActorMachine;
-use crate::instruction::Instruction;
 use sig_base::SigId;
+use sig_cells::Instruction;
 use sig_kernel::Inputs;
 use sig_plan::Plan;
 

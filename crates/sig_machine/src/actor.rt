@@ -4,10 +4,10 @@ ghost use Rattle.std.specs.Prelude.{◌≡◌, ◌+◌, ◌<◌, ◌^◌};
 ghost use Rattle.sig_machine.specs.Prelude.{ℕ, ℤ, List, PlanView, at_next};
 ghost use Rattle.sig_machine.specs.ActorMachines.{IsMachineOfActor, actor_in, instant_of, last_in, seen_in, truths_in};
 
-use crate::instruction::Instruction;
 use crate::machine::Machine;
 use crate::truths::forget;
 use sig_base::SigId;
+use sig_cells::Instruction;
 
 /// What an actor of a plan has of each signal in the instant at which it is, what it remembers for each delay, and how
 /// many values of each input it has read, with the instructions of its code. Of the conditions it keeps the truths, which

@@ -2,18 +2,16 @@
 
 ghost use Rattle.std.specs.Prelude.{◌≡◌, ◌≤◌, ◌<◌, ◌+◌};
 ghost use Rattle.sig_machine.specs.Prelude.{ℕ, IfOk, length, IsValid, initial_in, Compute};
-ghost use Rattle.sig_machine.specs.Lowerings.{HasShape, IsTarget, IsWorkOf, Lowers};
+ghost use Rattle.sig_machine.specs.Lowerings.{AreFor, AreGuardsOf, HasShape, IsTarget, IsWorkOf, Lowers};
 ghost use Rattle.sig_machine.specs.Machines.{memories_at};
 ghost use Rattle.sig_machine.specs.inner.Sources.{Grows};
 
-use crate::coded::all_coded;
-use crate::instruction::{Instruction, Work};
 use crate::lowered::Lowered;
-use crate::plans::{kernel_of, op_at, order_of};
-use crate::runs::runs_of;
+use crate::plans::{conditions_of, kernel_of, op_at, order_of, store_of};
 use crate::sources::{constant, work_of_form};
-use crate::ways::{first_of, ways_of};
 use sig_base::SigId;
+use sig_cells::{Code, Instruction, Work};
+use sig_dd::Ref;
 use sig_kernel::Kernel;
 use sig_plan::{Op, OpKind, Plan};
 use sig_values::{defined_by, initial_values};
@@ -24,28 +22,55 @@ pub fn lower(alloc: Global, plan: &Plan) -> Result<Lowered, AllocError>
     ensures { IfOk result (Lowers plan.now) }
 {
     let kernel = kernel_of(plan);
+    let signals = signal_count(kernel);
     let mut cells = opening_cells(alloc, kernel)?;
+    let guards = guards_of(alloc, plan)?;
+    let instructions = instructions_of(alloc, plan, &mut cells)?;
+    let code = Code::new(
+        alloc,
+        store_of(plan),
+        conditions_of(plan),
+        signals,
+        guards.as_slice(),
+        instructions,
+    )?;
+    Ok(Lowered {
+        signals,
+        code,
+        cells,
+    })
+}
+
+/// The guards of the operations of a plan, in its order.
+fn guards_of(alloc: Global, plan: &Plan) -> Result<Vec<Ref>, AllocError>
+    ensures { IfOk result (λ guards. AreGuardsOf plan.now guards.items) }
+{
+    let mut guards = Vec::new(alloc);
+    for place in 0..order_of(plan).len() {
+        guards.push(op_at(plan, place).guard)?;
+    }
+    Ok(guards)
+}
+
+/// The instructions of the operations of a plan, in its order, to which the cells of constants are added.
+fn instructions_of(
+    alloc: Global,
+    plan: &Plan,
+    cells: &mut Vec<i64>,
+) -> Result<Vec<Instruction>, AllocError>
+    requires { length plan.now.kernel.signals + length plan.now.kernel.signals ≤ length cells.old.items }
+    ensures grows { IfOk result (λ instructions. Grows cells.old.items cells.new.items) }
+    ensures each { IfOk result (λ instructions. AreFor plan.now cells.new.items instructions.items) }
+{
+    let kernel = kernel_of(plan);
     let mut instructions = Vec::new(alloc);
     for place in 0..order_of(plan).len() {
         let op = op_at(plan, place);
-        let work = work_of(kernel, op, &mut cells)?;
+        let work = work_of(kernel, op, cells)?;
         let target = target_of(kernel, op);
         instructions.push(Instruction { work, target })?;
     }
-    let coded = all_coded(alloc, &instructions)?;
-    let runs = runs_of(alloc, plan)?;
-    let made = runs.as_slice();
-    let first = first_of(plan, made);
-    let ways = ways_of(alloc, plan, made)?;
-    Ok(Lowered {
-        signals: signal_count(kernel),
-        instructions,
-        coded,
-        runs,
-        first,
-        ways,
-        cells,
-    })
+    Ok(instructions)
 }
 
 /// The cells of the signals, and those of the delays with their initial values.

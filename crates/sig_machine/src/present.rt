@@ -4,13 +4,12 @@ ghost use Rattle.std.specs.Prelude.{◌≡◌, ◌+◌, ◌<◌, ◌^◌};
 ghost use Rattle.sig_machine.specs.Prelude.{IfOk, IfNone, IfSome, List, None, Ok, ℤ, length, answered};
 ghost use Rattle.sig_machine.specs.Machines.{taken_of};
 ghost use Rattle.sig_machine.specs.inner.Present.{FaultsWith, IsDoneWith, given, present_cell};
-ghost use Rattle.sig_machine.specs.inner.Works.{ReadsWithin, input_taken};
+ghost use Rattle.sig_cells.specs.Instructions.{ReadsWithin, input_taken};
 
-use crate::instruction::{Instruction, Work};
 use crate::machine::Machine;
-use crate::quick::{quickly_of_one, quickly_of_two};
 use crate::works::NO_EQUATION;
 use sig_base::SigId;
+use sig_cells::{Instruction, Work, quickly_of_one, quickly_of_two};
 use sig_kernel::Inputs;
 use sig_plan::Cause;
 use sig_values::{computed_of_one, computed_of_two, next_value};

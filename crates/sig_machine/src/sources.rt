@@ -5,7 +5,7 @@ ghost use Rattle.sig_machine.specs.Prelude.{[], ℕ, IfOk, length, map, function
 ghost use Rattle.sig_machine.specs.Lowerings.{taken_by_form};
 ghost use Rattle.sig_machine.specs.inner.Sources.{AreBelow, Grows, IsCellOf, IsConstant, IsSource};
 
-use crate::instruction::Work;
+use sig_cells::Work;
 use sig_kernel::{Form, FunOp, Operand};
 use std::alloc::AllocError;
 

@@ -6,9 +6,9 @@ ghost use Rattle.sig_machine.specs.ActorMachines.{AreForSteps, IsForKind};
 ghost use Rattle.sig_machine.specs.inner.Sources.{Grows};
 ghost use Rattle.sig_machine.specs.Lowerings.{HasShape, IsFor};
 
-use crate::instruction::{Instruction, Work};
 use crate::lowering::{target_of, work_of};
 use crate::plans::{kernel_of, op_of};
+use sig_cells::{Instruction, Work};
 use sig_kernel::Kernel;
 use sig_plan::{Op, Plan, Step, StepKind};
 use std::alloc::{AllocError, Global};

@@ -2,10 +2,11 @@
 use Rattle.std.specs.Prelude.{◌≡◌, ◌∷◌, if◌then◌else◌}
 use Rattle.sig_machine.specs.Prelude.{ℕ, ℤ, pos, List, [], nat_lt, slice_get, slice_index_or, Ok, unwrap_or, answered, function_of, Cause, Faults, Gives, Outcome, computed, next_of}
 use Rattle.sig_machine.specs.Machines.{cell, stamped, taken_of}
-use Rattle.sig_machine.specs.inner.Works.{IsKept, input_id, no_equation}
-use Rattle.sig_machine.specs.declared.instruction.Instruction.{Instruction}
-use Rattle.sig_machine.specs.declared.instruction.Work.{Work}
-use Rattle.sig_machine.specs.declared.instruction.Work.TheVariants.{Next, Copy, One, Two}
+use Rattle.sig_machine.specs.inner.Works.{IsKept}
+use Rattle.sig_cells.specs.Instructions.{input_id, no_equation}
+use Rattle.sig_cells.specs.declared.instruction.Instruction.{Instruction}
+use Rattle.sig_cells.specs.declared.instruction.Work.{Work}
+use Rattle.sig_cells.specs.declared.instruction.Work.TheVariants.{Next, Copy, One, Two}
 use Rattle.sig_machine.specs.declared.machine.Machine.{Machine}
 
 -- the value of a cell, and 0 where it is that of a signal that was not written in this instant

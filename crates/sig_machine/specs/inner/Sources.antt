@@ -2,9 +2,10 @@
 use Rattle.std.specs.Prelude.{◌≡◌, ◌<◌, ◌≤◌, ◌+◌, ◌++◌, ◌∷◌}
 use Rattle.sig_machine.specs.Prelude.{ℕ, ℤ, List, [], length, Some, Contains, EqId, SigId, Operand, Sig, Const, Registers, Outcome}
 use Rattle.sig_machine.specs.Machines.{HaveConstants, cell, registers_of}
-use Rattle.sig_machine.specs.inner.Works.{ReadsWithin, as_named, came_to}
-use Rattle.sig_machine.specs.declared.instruction.Work.{Work}
-use Rattle.sig_machine.specs.declared.instruction.Work.TheVariants.{Copy}
+use Rattle.sig_machine.specs.inner.Works.{as_named, came_to}
+use Rattle.sig_cells.specs.Instructions.{ReadsWithin}
+use Rattle.sig_cells.specs.declared.instruction.Work.{Work}
+use Rattle.sig_cells.specs.declared.instruction.Work.TheVariants.{Copy}
 use Rattle.sig_machine.specs.declared.machine.Machine.{Machine}
 
 -- cells were added

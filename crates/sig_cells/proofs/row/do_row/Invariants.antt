@@ -1,0 +1,14 @@
+use Rattle.std.proofs.Common.{◌≡◌, ◌≤◌, ◌-◌}
+use Rattle.sig_cells.specs.Instructions.{cell, cells_of}
+use Rattle.sig_cells.proofs.DoneInARow.{AreDoneTo}
+use Rattle.sig_cells.proofs.row.do_row.Given as goal
+
+abbrev pub decreases-loop-left : goal.decreases-loop-left
+decreases-loop-left l = l.left
+
+abbrev pub invariant-loop-left : goal.invariant-loop-left
+invariant-loop-left l = record {
+  left : l.left ≤ l.to - l.from;
+  done : AreDoneTo l.code l._inputs l.instant l.from (l.to - l.left) (cells_of l.fn.cells l.fn.stamps l._taken) (cells_of l.cells l.stamps l._taken);
+  newest : cell l.cells l.newest.cell ≡ l.newest.value;
+}

@@ -1,0 +1,22 @@
+-- Instructions in a row that are done whatever their guards are.
+use Rattle.std.specs.Prelude.{◌≡◌, ◌+◌}
+use Rattle.sig_cells.specs.Prelude.{ℕ, zero, suc, ℤ, List, Cause}
+use Rattle.sig_cells.specs.Instants.{DoesAt, FailsAt}
+use Rattle.sig_cells.specs.Instructions.{Cells}
+use Rattle.sig_cells.specs.declared.instruction.Instruction.{Instruction}
+
+-- from a place on so many are done
+abbrev pub Does : List Instruction → List (List ℤ) → ℕ → ℕ → ℕ → Cells → Cells → Type 0
+Does instructions flows instant from zero s t = t ≡ s
+Does instructions flows instant from (suc n) s t =
+    (middle : Cells) × Does instructions flows instant from n s middle × DoesAt instructions flows instant (from + n) middle t
+
+-- All from one place up to another are done.
+pub record GoesTo (instructions : List Instruction) (flows : List (List ℤ)) (instant from to : ℕ) (s t : Cells) : Type 0 where
+  pub count : ℕ
+  pub ends : from + count ≡ to
+  pub does : Does instructions flows instant from count s t
+
+-- the instruction of a place has no value
+abbrev pub Stops : List Instruction → List (List ℤ) → ℕ → Cells → Type 0
+Stops instructions flows place s = (cause : Cause) × FailsAt instructions flows place s cause

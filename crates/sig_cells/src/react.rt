@@ -1,0 +1,184 @@
+//! One instant.
+
+ghost use Rattle.std.specs.Prelude.{◌≡◌, ◌≤◌, ◌<◌};
+ghost use Rattle.sig_cells.specs.Prelude.{ℕ, List, IfErr, OnOk, length};
+ghost use Rattle.sig_cells.specs.Codes.{AreInstructions, EndsIn, HandlesAll, IsCode, StandsIn, instructions_in};
+ghost use Rattle.sig_cells.specs.Instants.{FailsAt, Keeps};
+ghost use Rattle.sig_cells.specs.inner.Rows.{GoesTo, Stops};
+ghost use Rattle.sig_cells.specs.Instructions.{cells_of};
+ghost use Rattle.sig_cells.specs.inner.Tests.{is_end};
+
+use crate::code::Code;
+use crate::guard::View;
+use crate::quick::value_by;
+use crate::row::do_long;
+use crate::stretches::Stretch;
+use crate::test::Test;
+use crate::works::{come_to, do_one};
+use sig_dd::Store;
+use sig_kernel::Inputs;
+use sig_plan::Cause;
+
+/// From how many instructions on a stretch is long.
+const LONG: usize = 16;
+
+/// The first instruction of an instant that has no value: its place, and why it has none, where the equation that is named is
+/// none of its own.
+#[derive(Clone, Copy, Debug, PartialEq, Eq)]
+pub struct Fault {
+    pub place: usize,
+    pub cause: Cause,
+}
+
+impl Code {
+    /// Does all instructions of an instant whose guards hold, in their order, or tells the first that has no value. It takes no
+    /// memory.
+    pub fn react(
+        &self,
+        store: &Store,
+        inputs: &Inputs,
+        instant: u32,
+        cells: &mut [i64],
+        stamps: &mut [u32],
+        taken: &mut [usize],
+    ) -> Result<(), Fault>
+        requires code { IsCode store.now.nodes (length taken.old) (length cells.old) self.now }
+        requires stamps { length stamps.old ≡ length cells.old }
+        ensures done { StandsIn store.now.nodes self.now inputs.now instant (cells_of cells.old stamps.old taken.old)
+            → OnOk result (HandlesAll store.now.nodes self.now inputs.now instant (cells_of cells.old stamps.old taken.old) (cells_of cells.new stamps.new taken.new)) }
+        ensures fault { StandsIn store.now.nodes self.now inputs.now instant (cells_of cells.old stamps.old taken.old)
+            → IfErr result (EndsIn store.now.nodes self.now inputs.now instant (cells_of cells.old stamps.old taken.old) (cells_of cells.new stamps.new taken.new)) }
+        ensures place { IfErr result (λ fault. fault.place < length (instructions_in self.now)) }
+        ensures keeps { Keeps (instructions_in self.now) instant (cells_of cells.old stamps.old taken.old) (cells_of cells.new stamps.new taken.new) }
+    {
+        let signals = self.signals;
+        let mut next = &self.first;
+        while !is_end(&next.test) {
+            let ways = &self.ways[next.place];
+            let view = View {
+                signals,
+                instant,
+                cells,
+                stamps,
+            };
+            if view.is_on(store, self.conditions.as_slice(), ways.guard, &next.test) {
+                next = &ways.on;
+                let reached = self.do_stretch(inputs, next, instant, cells, stamps, taken);
+                if reached < next.to {
+                    return Err(self.fault_at(inputs, reached, cells, taken));
+                }
+            } else {
+                next = &ways.off;
+                let reached = self.do_stretch(inputs, next, instant, cells, stamps, taken);
+                if reached < next.to {
+                    return Err(self.fault_at(inputs, reached, cells, taken));
+                }
+            }
+        }
+        Ok(())
+    }
+
+    /// Why the instruction of a place has no value.
+    #[cold]
+    #[inline(never)]
+    fn fault_at(&self, inputs: &Inputs, place: usize, cells: &[i64], taken: &[usize]) -> Fault
+        requires within { place < length (instructions_in self.now) }
+        requires code { AreInstructions (length taken.now) (length cells.now) self.now }
+        requires stops { (stamps : List ℕ) → Stops (instructions_in self.now) inputs.now place (cells_of cells.now stamps taken.now) }
+        ensures place { result.place ≡ place }
+        ensures fails { (stamps : List ℕ) → FailsAt (instructions_in self.now) inputs.now place (cells_of cells.now stamps taken.now) result.cause }
+    {
+        match come_to(self.instructions[place].work, inputs, cells, taken) {
+            // It has none.
+            Ok(_) => Fault {
+                place,
+                cause: Cause::Limit,
+            },
+            Err(cause) => Fault { place, cause },
+        }
+    }
+
+    /// Does the instructions of a stretch, up to one that has no value, and gives the place that it comes to.
+    #[inline(always)]
+    fn do_stretch(
+        &self,
+        inputs: &Inputs,
+        stretch: &Stretch,
+        instant: u32,
+        cells: &mut [i64],
+        stamps: &mut [u32],
+        taken: &mut [usize],
+    ) -> usize
+        requires code { AreInstructions (length taken.old) (length cells.old) self.now }
+        requires stamps { length stamps.old ≡ length cells.old }
+        requires forth { stretch.now.from ≤ stretch.now.to }
+        requires within { stretch.now.to ≤ length (instructions_in self.now) }
+        ensures later { stretch.now.from ≤ result }
+        ensures within { result ≤ stretch.now.to }
+        ensures goes { GoesTo (instructions_in self.now) inputs.now instant stretch.now.from result (cells_of cells.old stamps.old taken.old) (cells_of cells.new stamps.new taken.new) }
+        ensures stops { result < stretch.now.to → Stops (instructions_in self.now) inputs.now result (cells_of cells.new stamps.new taken.new) }
+        ensures keeps { Keeps (instructions_in self.now) instant (cells_of cells.old stamps.old taken.old) (cells_of cells.new stamps.new taken.new) }
+    {
+        let from = stretch.from;
+        let to = stretch.to;
+        if to - from >= LONG {
+            do_long(self, inputs, from, to, instant, cells, stamps, taken)
+        } else {
+            self.do_short(inputs, from, to, instant, cells, stamps, taken)
+        }
+    }
+
+    /// Does the instructions from a place up to another one, or to one that has no value, and gives the place that it comes to.
+    #[inline(always)]
+    fn do_short(
+        &self,
+        inputs: &Inputs,
+        from: usize,
+        to: usize,
+        instant: u32,
+        cells: &mut [i64],
+        stamps: &mut [u32],
+        taken: &mut [usize],
+    ) -> usize
+        requires code { AreInstructions (length taken.old) (length cells.old) self.now }
+        requires stamps { length stamps.old ≡ length cells.old }
+        requires forth { from ≤ to }
+        requires within { to ≤ length (instructions_in self.now) }
+        ensures later { from ≤ result }
+        ensures within { result ≤ to }
+        ensures goes { GoesTo (instructions_in self.now) inputs.now instant from result (cells_of cells.old stamps.old taken.old) (cells_of cells.new stamps.new taken.new) }
+        ensures stops { result < to → Stops (instructions_in self.now) inputs.now result (cells_of cells.new stamps.new taken.new) }
+        ensures keeps { Keeps (instructions_in self.now) instant (cells_of cells.old stamps.old taken.old) (cells_of cells.new stamps.new taken.new) }
+    {
+        let coded = self.coded.as_slice();
+        let mut left = to - from;
+        while left > 0 {
+            let one = coded[to - left];
+            match value_by(one.opcode, cells[one.a as usize], cells[one.b as usize]) {
+                Some(value) => {
+                    cells[one.target as usize] = value;
+                    stamps[one.target as usize] = instant;
+                }
+                None => {
+                    let instruction = &self.instructions[to - left];
+                    if !do_one(instruction, inputs, instant, cells, stamps, taken) {
+                        return to - left;
+                    }
+                }
+            }
+            left -= 1;
+        }
+        to
+    }
+}
+
+/// Whether a test says that there is no run any more.
+#[inline(always)]
+fn is_end(test: &Test) -> bool
+    ensures { result ≡ is_end test.now }
+{
+    match test {
+        Test::End => true,
+        _ => false,
+    }
+}

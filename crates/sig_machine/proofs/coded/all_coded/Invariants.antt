@@ -1,8 +1,0 @@
-use Rattle.sig_machine.proofs.{◌≡◌, length, ArePairs, IsCoded}
-use Rattle.sig_machine.proofs.coded.all_coded.Given as goal
-
-abbrev pub invariant-loop-place : goal.invariant-loop-place
-invariant-loop-place l = record {
-  count : length l.coded.items ≡ l.place;
-  each : ArePairs (λ _. IsCoded) l.instructions.items l.coded.items;
-}

@@ -1,9 +1,0 @@
-use Rattle.sig_machine.proofs.{Holds, IsTold}
-use Rattle.sig_machine.proofs.implied.is_told.Given as goal
-
-abbrev pub invariant-loop : goal.invariant-loop
-invariant-loop l = record {
-  known : Holds l.store.nodes l.pair.known.guard;
-  told : Holds l.store.nodes l.pair.told.guard;
-  leads : IsTold l.store.nodes l.pair.known l.pair.told → IsTold l.store.nodes l.fn.known l.fn.told;
-}

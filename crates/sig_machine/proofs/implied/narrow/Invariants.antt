@@ -1,5 +1,0 @@
-use Rattle.sig_machine.proofs.{IsNarrowed}
-use Rattle.sig_machine.proofs.implied.narrow.Given as goal
-
-abbrev pub invariant-loop : goal.invariant-loop
-invariant-loop l = IsNarrowed l.store.nodes l.fn.known l.fn.guard l.left
