@@ -34,15 +34,18 @@ module _ (image : ImageView) (right : IsImage image) (sound : IsSoundImage image
             own x on (subst (λ (o : Guarded). Writes o.kind x) same w.writes)
       ]
 
+    written_same : (x y : SigId) → y.0 ≡ x.0 → IsWrittenBefore (guards_of image).ops n (truths s) x → IsWrittenBefore (guards_of image).ops n (truths s) y
+    written_same x y same w = subst (λ (k : ℕ). IsWrittenBefore (guards_of image).ops n (truths s) (record { 0 = k })) (sym same) w
+
+    -- an operation that is done writes nothing that was written before
+    pub stays_done : IsOn op s → (v : ℤ) → Stays (guards_of image) n s (operated op.kind v s)
+    stays_done on v = λ x w. others_stay op.kind v s x.0 (λ y writes same. (sound n op is).writes (truths s) y on writes (written_same x y same w))
+
     -- behind an operation that was done
     pub behind_done : IsOn op s → (v : ℤ) → IsAmid image (n + 1) (operated op.kind v s)
     behind_done on v =
-        behind (operated op.kind v s) (operated_alike op.kind v s)
-        (λ x w. others_stay op.kind v s x.0 (λ y writes same. (sound n op is).writes (truths s) y on writes (written_same x y same w)))
+        behind (operated op.kind v s) (operated_alike op.kind v s) (stays_done on v)
         (λ x on_too writes. (v, written_there op.kind v s x writes (let r = amid.registers in let b = writes_within image right op.kind (may_do image right n op is) x writes in omega (arith, r, b))))
-      where
-        written_same : (x y : SigId) → y.0 ≡ x.0 → IsWrittenBefore (guards_of image).ops n (truths s) x → IsWrittenBefore (guards_of image).ops n (truths s) y
-        written_same x y same w = subst (λ (k : ℕ). IsWrittenBefore (guards_of image).ops n (truths s) (record { 0 = k })) (sym same) w
 
     -- behind one that was passed over
     pub behind_passed : (IsOn op s → ⊥) → IsAmid image (n + 1) s
@@ -51,15 +54,6 @@ module _ (image : ImageView) (right : IsImage image) (sound : IsSoundImage image
     -- an operation that is done has what it reads
     pub reads_there : IsOn op s → HasReads op.kind s
     reads_there on x reads = amid.written x ((sound n op is).reads (truths s) x on reads)
-
-    -- the guard has its truth behind the operation, too
-    pub still_done : IsOn op s → (v : ℤ) → value_at op.guard (truths (operated op.kind v s)) ≡ true
-    still_done on v =
-        sym (stays (guards_of image) sound n s (operated op.kind v s)
-        (λ x w. others_stay op.kind v s x.0 (λ y writes same. (sound n op is).writes (truths s) y on writes (same_written x y same w))) n op (omega arith) is) ∙ on
-      where
-        same_written : (x y : SigId) → y.0 ≡ x.0 → IsWrittenBefore (guards_of image).ops n (truths s) x → IsWrittenBefore (guards_of image).ops n (truths s) y
-        same_written x y same w = subst (λ (k : ℕ). IsWrittenBefore (guards_of image).ops n (truths s) (record { 0 = k })) (sym same) w
 
   -- at the start
   pub amid_first : (s : State) → length s.registers ≡ length image.signals → length s.memories ≡ length image.memories → length s.flows ≡ image.inputs → IsAmid image 0 s

@@ -1,9 +1,9 @@
 -- The operations of an instant, one after another.
-use Rattle.sig_exec.proofs.Common.{◌≡◌, ◌+◌, inl, inr, ℕ, zero, suc, true, false, List, [], ◌∷◌, take, None, Some, refl, sym, subst, arith, slice_get, Guarded, Guards, guarded_in, guards_of, ImageView, IsImage, Ends, EndsIn, Handles, HandlesAll, State, holds, ImageOp, ImageCause, DoesAt, EndsAt, HandlesFirst}
+use Rattle.sig_exec.proofs.Common.{◌≡◌, inl, inr, ℕ, zero, suc, true, List, [], ◌∷◌, take, None, Some, refl, sym, subst, slice_get, Guarded, Guards, guarded_in, guards_of, ImageView, IsImage, Ends, EndsIn, Handles, HandlesAll, State, holds, ImageOp, ImageCause, EndsAt, HandlesFirst}
 use Rattle.sig_exec.proofs.Places.{guarded_at}
 
 -- one more at the end
-then_one : (guards : Guards) (ops : List Guarded) (n : ℕ) (op : Guarded) (s t u : State) → slice_get ops n ≡ Some op → HandlesAll guards (take n ops) s t → Handles guards op t u
+pub then_one : (guards : Guards) (ops : List Guarded) (n : ℕ) (op : Guarded) (s t u : State) → slice_get ops n ≡ Some op → HandlesAll guards (take n ops) s t → Handles guards op t u
     → HandlesAll guards (take (suc n) ops) s u
 then_one guards [] n op s t u is all one = absurd (let f : None ≡ Some op = is in cc)
 then_one guards (o ∷ ops) zero op s t u is all one =
@@ -26,19 +26,6 @@ then_ends guards (o ∷ ops) (suc n) op s t cause is (middle, first, rest) on en
 module _ (image : ImageView) (right : IsImage image) (n : ℕ) (op : ImageOp) (is : slice_get image.ops n ≡ Some op) (s t : State) (first : HandlesFirst image n s t) where
   abbrev guarded : Guarded
   guarded = guarded_in image.nodes op
-
-  add_one : (m : ℕ) → m ≡ n + 1 → m ≡ suc n
-  add_one m e = omega (arith, e)
-
-  pub first_done : holds (guards_of image) guarded t ≡ true → (u : State) → DoesAt image n t u → HandlesFirst image (n + 1) s u
-  first_done on u did =
-      subst (λ (m : ℕ). HandlesFirst image m s u) (sym (add_one (n + 1) refl))
-      (then_one (guards_of image) (guards_of image).ops n guarded s t u (guarded_at image right n op is) first (inl (on, did op is)))
-
-  pub first_passed : holds (guards_of image) guarded t ≡ false → HandlesFirst image (n + 1) s t
-  first_passed off =
-      subst (λ (m : ℕ). HandlesFirst image m s t) (sym (add_one (n + 1) refl))
-      (then_one (guards_of image) (guards_of image).ops n guarded s t t (guarded_at image right n op is) first (inr (off, refl)))
 
   pub first_ends : holds (guards_of image) guarded t ≡ true → (cause : ImageCause) → EndsAt image n t cause → EndsIn (guards_of image) (guards_of image).ops s cause
   first_ends on cause ends = then_ends (guards_of image) (guards_of image).ops n guarded s t cause (guarded_at image right n op is) first on (ends op is)

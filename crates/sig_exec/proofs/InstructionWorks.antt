@@ -1,17 +1,17 @@
 -- An instruction comes to what its operation comes to, and leaves what that leaves.
-use Rattle.sig_exec.proofs.Common.{◌≡◌, ◌<◌, ◌≤◌, ◌+◌, ◌++◌, ℕ, zero, suc, ℤ, pos, List, [], ◌∷◌, length, set, drop, replicate, Some, Ok, refl, sym, ap, subst, ◌∙◌, arith, length-set, length-append, get_or-set_other, slice_get, slice_index_or, Contains, get_or-take, get_or-drop, length-take-le, length-drop, length-map, length-replicate, Instant, seen_at, SigId, function_of, FunOp, Operand, Const, Sig, Writes, ImageView, IsImage, MayDo, scope_of, State, ImageMemory, ImageOp, ImageOpKind, IsCellOf, IsConstant, IsFor, IsFunctionWork, IsWorkOf, Lowers, bound_of, cell, inits_of, target_of, HasCells, IsKept, IsMachineOf, ReadsWithin, came_to, left_of, next_of, registers_of, state_of, taken_after, taken_of, computed, Instruction, Work, Next, Copy, One, Two, Lowered, Machine}
+use Rattle.sig_exec.proofs.Common.{◌≡◌, ◌<◌, ◌≤◌, ◌+◌, ◌++◌, ℕ, zero, suc, ℤ, pos, List, [], ◌∷◌, length, set, drop, replicate, Some, Ok, refl, sym, ap, subst, ◌∙◌, arith, length-set, length-append, get_or-set_other, slice_get, slice_index_or, Contains, get_or-take, get_or-drop, length-take-le, length-drop, length-map, length-replicate, Instant, seen_at, SigId, function_of, FunOp, Operand, Const, Sig, Writes, ImageView, IsImage, MayDo, scope_of, State, ImageMemory, ImageOp, ImageOpKind, IsCellOf, IsConstant, IsFor, IsFunctionWork, IsWorkOf, Lowers, bound_of, cell, inits_of, target_of, Cells, AreCellsOf, HaveSignals, ReadsWithin, answer_of, left_by, left_of, next_of, answered, registers_on, state_on, taken_after, computed, no_equation, Instruction, Work, Next, Copy, One, Two, Lowered}
 use Rattle.sig_file.specs.declared.images.ImageOpKind.TheVariants as does
-use Rattle.sig_exec.proofs.Cells.{cell_of_seen, flows_read, flows_same, left_at, left_length, memory_memories, memory_registers, signal_memories, signal_registers}
+use Rattle.sig_exec.proofs.CellsLeft.{cell_of_seen, flows_read, flows_same, left_at, left_length, memory_memories, memory_registers, signal_memories, signal_registers}
 use Rattle.sig_exec.proofs.OperationOutcomes.{HasPlaces, HasReads, next_in, operand_in, operated, outcome, value_in}
 use Rattle.sig_exec.proofs.Places.{stored_within, target_within, writes_within}
 
-next_drop : (x : SigId) (flow : List ℤ) (t : ℕ) → next_of x (slice_get flow t) ≡ next_in x (drop t flow)
+next_drop : (x : SigId) (flow : List ℤ) (t : ℕ) → answered (next_of x (slice_get flow t)) ≡ next_in x (drop t flow)
 next_drop x [] zero = refl
 next_drop x [] (suc t) = refl
 next_drop x (v ∷ flow) zero = refl
 next_drop x (v ∷ flow) (suc t) = next_drop x flow t
 
-module _ (image : ImageView) (lowered : Lowered) (lowers : Lowers image lowered) (flows : List (List ℤ)) (m : Machine) (is : IsMachineOf image lowered flows m) where
+module _ (image : ImageView) (lowered : Lowered) (lowers : Lowers image lowered) (flows : List (List ℤ)) (instant : ℕ) (m : Cells) (is : AreCellsOf image lowered flows instant m) where
   pub room : bound_of image ≤ length lowered.cells.items
   room =
       let (more, all) = lowers.opening in
@@ -22,70 +22,70 @@ module _ (image : ImageView) (lowered : Lowered) (lowers : Lowers image lowered)
       let fifth = length-map image.memories (λ (memory : ImageMemory). memory.init) in
       omega (arith, first, second, third, fourth, fifth)
 
-  pub has_cells : HasCells image m
+  pub has_cells : HaveSignals image m
   has_cells = let r = room in let a = is.cells in let b = is.stamps in record { cells = omega (arith, r, a); stamps = omega (arith, r, b) }
 
   -- there are as many memories and flows as the image and the flows have
-  pub memories_length : length (state_of image flows m).memories ≡ length image.memories
+  pub memories_length : length (state_on image flows instant m).memories ≡ length image.memories
   memories_length =
-      let r = room in let a = is.cells in let d = length-drop (length image.signals) m.cells.items in
-      length-take-le (length image.memories) (drop (length image.signals) m.cells.items) (omega (arith, r, a, d))
+      let r = room in let a = is.cells in let d = length-drop (length image.signals) m.values in
+      length-take-le (length image.memories) (drop (length image.signals) m.values) (omega (arith, r, a, d))
 
-  pub flows_length : length (state_of image flows m).flows ≡ length flows
-  flows_length = left_length m.taken.items flows is.inputs
+  pub flows_length : length (state_on image flows instant m).flows ≡ length flows
+  flows_length = left_length m.taken flows is.inputs
 
-  constant_there : (value : ℤ) (n : ℕ) → IsConstant (bound_of image) lowered.cells.items value n → cell m.cells.items n ≡ value
+  constant_there : (value : ℤ) (n : ℕ) → IsConstant (bound_of image) lowered.cells.items value n → cell m.values n ≡ value
   constant_there value n (behind, within, holds) = is.constants n behind within ∙ holds
 
-  seen_cell : (x : SigId) → ((v : ℤ) × (seen_at (registers_of image m) x.0 ≡ Some v)) → (x.0 < length image.signals) × (cell m.cells.items x.0 ≡ value_in (seen_at (registers_of image m) x.0))
-  seen_cell x there = cell_of_seen image m has_cells x.0 there
+  seen_cell : (x : SigId) → ((v : ℤ) × (seen_at (registers_on image instant m) x.0 ≡ Some v)) → (x.0 < length image.signals) × (cell m.values x.0 ≡ value_in (seen_at (registers_on image instant m) x.0))
+  seen_cell x there = cell_of_seen image instant m has_cells x.0 there
 
-  operand_cell : (operand : Operand) (n : ℕ) → IsCellOf (bound_of image) lowered.cells.items operand n → ((x : SigId) → operand ≡ Sig x → (v : ℤ) × (seen_at (registers_of image m) x.0 ≡ Some v))
-      → (n < length m.cells.items) × (cell m.cells.items n ≡ operand_in (registers_of image m) operand)
+  operand_cell : (operand : Operand) (n : ℕ) → IsCellOf (bound_of image) lowered.cells.items operand n → ((x : SigId) → operand ≡ Sig x → (v : ℤ) × (seen_at (registers_on image instant m) x.0 ≡ Some v))
+      → (n < length m.values) × (cell m.values n ≡ operand_in (registers_on image instant m) operand)
   operand_cell (Sig x) n e there =
       let (below, value) = seen_cell x (there x refl) in
       let r = room in let a = is.cells in
-      (omega (arith, e, below, r, a), ap (cell m.cells.items) e ∙ value)
+      (omega (arith, e, below, r, a), ap (cell m.values) e ∙ value)
   operand_cell (Const value) n (behind, within, holds) there =
       let a = is.cells in (omega (arith, within, a), constant_there value n (behind, within, holds))
 
-  memory_cell : (memory : ℕ) → memory < length image.memories → cell m.cells.items (length image.signals + memory) ≡ slice_index_or (state_of image flows m).memories memory (pos 0)
+  memory_cell : (memory : ℕ) → memory < length image.memories → cell m.values (length image.signals + memory) ≡ slice_index_or (state_on image flows instant m).memories memory (pos 0)
   memory_cell memory below =
-      sym (get_or-take (length image.memories) (drop (length image.signals) m.cells.items) memory (pos 0) below ∙ get_or-drop (length image.signals) m.cells.items memory (pos 0))
+      sym (get_or-take (length image.memories) (drop (length image.signals) m.values) memory (pos 0) below ∙ get_or-drop (length image.signals) m.values memory (pos 0))
 
   -- what an instruction reads is there, and it comes to the outcome
   pub record Fits (kind : ImageOpKind) (work : Work) : Type 0 where
-    pub reads : ReadsWithin (length m.taken.items) (length m.cells.items) work
-    pub value : came_to flows m work ≡ outcome kind (state_of image flows m)
+    pub reads : ReadsWithin (length m.taken) (length m.values) work
+    pub value : answer_of flows m.values m.taken work ≡ outcome kind (state_on image flows instant m)
 
   function_fits : (y : SigId) (op : FunOp) (operands : List Operand) (work : Work) → IsFunctionWork (bound_of image) lowered.cells.items op operands work
-      → ((x : SigId) → Contains operands (Sig x) → (v : ℤ) × (seen_at (registers_of image m) x.0 ≡ Some v)) → Fits (does.Fun y op operands) work
+      → ((x : SigId) → Contains operands (Sig x) → (v : ℤ) × (seen_at (registers_on image instant m) x.0 ≡ Some v)) → Fits (does.Fun y op operands) work
   function_fits y op [] work none there = absurd none
   function_fits y op (a ∷ []) work (i, first, e) there =
       let (within, value) = operand_cell a i first (λ x same. there x (0, omega arith, same)) in
-      subst (Fits (does.Fun y op (a ∷ []))) (sym e) (record { reads = within; value = ap (λ (w : ℤ). computed (function_of op) (w ∷ [])) value })
+      subst (Fits (does.Fun y op (a ∷ []))) (sym e) (record { reads = within; value = ap (λ (w : ℤ). answered (computed no_equation (function_of op) (w ∷ []))) value })
   function_fits y op (a ∷ b ∷ []) work (i, j, first, second, e) there =
       let (within, value) = operand_cell a i first (λ x same. there x (0, omega arith, same)) in
       let (inside, other) = operand_cell b j second (λ x same. there x (1, omega arith, same)) in
       subst (Fits (does.Fun y op (a ∷ b ∷ []))) (sym e)
       (record {
         reads = (within, inside);
-        value = ap (λ (w : ℤ). computed (function_of op) (w ∷ cell m.cells.items j ∷ [])) value
-            ∙ ap (λ (w : ℤ). computed (function_of op) (operand_in (registers_of image m) a ∷ w ∷ [])) other;
+        value = ap (λ (w : ℤ). answered (computed no_equation (function_of op) (w ∷ cell m.values j ∷ []))) value
+            ∙ ap (λ (w : ℤ). answered (computed no_equation (function_of op) (operand_in (registers_on image instant m) a ∷ w ∷ []))) other;
       })
   function_fits y op (a ∷ b ∷ c ∷ operands) work none there = absurd none
 
-  copy_fits : (kind : ImageOpKind) (source : ℕ) (work : Work) → work ≡ Copy source → source < length m.cells.items → Ok (cell m.cells.items source) ≡ outcome kind (state_of image flows m) → Fits kind work
+  copy_fits : (kind : ImageOpKind) (source : ℕ) (work : Work) → work ≡ Copy source → source < length m.values → Ok (cell m.values source) ≡ outcome kind (state_on image flows instant m) → Fits kind work
   copy_fits kind source work e within value = subst (Fits kind) (sym e) (record { reads = within; value = value })
 
-  pub fits : (kind : ImageOpKind) (work : Work) → IsWorkOf image lowered.cells.items kind work → HasPlaces kind (state_of image flows m) → HasReads kind (state_of image flows m) → Fits kind work
+  pub fits : (kind : ImageOpKind) (work : Work) → IsWorkOf image lowered.cells.items kind work → HasPlaces kind (state_on image flows instant m) → HasReads kind (state_on image flows instant m) → Fits kind work
   fits (does.Read x) work e places reads =
       let count = flows_length in let inputs = is.inputs in
       let below : x.0 < length flows = omega (arith, places, count) in
       subst (Fits (does.Read x)) (sym e)
       (record {
         reads = omega (arith, below, inputs);
-        value = next_drop x (slice_index_or flows x.0 []) (taken_of m x.0) ∙ ap (next_in x) (sym (left_at m.taken.items flows x.0 inputs below));
+        value = next_drop x (slice_index_or flows x.0 []) (slice_index_or m.taken x.0 0) ∙ ap (next_in x) (sym (left_at m.taken flows x.0 inputs below));
       })
   fits (does.Fun y op operands) work e places reads = function_fits y op operands work e reads
   fits (does.Copy y x) work e places reads =
@@ -108,58 +108,61 @@ module _ (image : ImageView) (lowered : Lowered) (lowers : Lowers image lowered)
     pub target_inside : instruction.target < bound_of image
     target_inside = let t = for.target in let w = target_within image right op.kind may in omega (arith, t, w)
 
-    pub target_cell : instruction.target < length m.cells.items
+    pub target_cell : instruction.target < length m.values
     target_cell = let t = target_inside in let r = room in let a = is.cells in omega (arith, t, r, a)
 
-    pub target_stamp : instruction.target < length m.stamps.items
+    pub target_stamp : instruction.target < length m.stamps
     target_stamp = let t = target_inside in let r = room in let a = is.stamps in omega (arith, t, r, a)
 
-    module _ (v : ℤ) (new : Machine) (kept : IsKept instruction v m new) where
+    module _ (v : ℤ) where
+      abbrev new : Cells
+      new = left_by instruction v instant m
+
       abbrev S : ℕ
       S = length image.signals
 
-      state_is : (r : Instant) (l : List ℤ) (f : List (List ℤ)) → registers_of image new ≡ r → (state_of image flows new).memories ≡ l → left_of new.taken.items flows ≡ f
-          → state_of image flows new ≡ record { registers = r; memories = l; flows = f }
-      state_is r l f a b d = λ j. let s : State = record { registers = a j; memories = b j; flows = d j } in s
+      state_is : (r : Instant) (l : List ℤ) (f : List (List ℤ)) → registers_on image instant new ≡ r → (state_on image flows instant new).memories ≡ l → left_of new.taken flows ≡ f
+          → state_on image flows instant new ≡ record { registers = r; memories = l; flows = f }
+      state_is r l f a b d = λ j. let t : State = record { registers = a j; memories = b j; flows = d j } in t
 
-      signal_kept : (x : ℕ) → instruction.target ≡ x → x < S → taken_after instruction.work m.taken.items ≡ m.taken.items
-          → state_of image flows new ≡ record (state_of image flows m) { registers = set (registers_of image m) x (Some v) }
+      signal_kept : (x : ℕ) → instruction.target ≡ x → x < S → taken_after instruction.work m.taken ≡ m.taken
+          → state_on image flows instant new ≡ record (state_on image flows instant m) { registers = set (registers_on image instant m) x (Some v) }
       signal_kept x e below same =
-          state_is (set (registers_of image m) x (Some v)) (state_of image flows m).memories (left_of m.taken.items flows)
-          (signal_registers image flows instruction v m new kept target_stamp target_cell x e below)
-          (signal_memories image flows instruction v m new kept target_stamp target_cell x e below)
-          (flows_same image flows instruction v m new kept same)
+          state_is (set (registers_on image instant m) x (Some v)) (state_on image flows instant m).memories (left_of m.taken flows)
+          (signal_registers image flows instruction v instant m target_stamp target_cell x e below)
+          (signal_memories image flows instruction v instant m target_stamp target_cell x e below)
+          (flows_same image flows instruction v instant m same)
 
-      not_next : (work : Work) (source : ℕ) → work ≡ Copy source → taken_after work m.taken.items ≡ m.taken.items
-      not_next work source e = ap (λ (w : Work). taken_after w m.taken.items) e
+      not_next : (work : Work) (source : ℕ) → work ≡ Copy source → taken_after work m.taken ≡ m.taken
+      not_next work source e = ap (λ (w : Work). taken_after w m.taken) e
 
-      function_not_next : (f : FunOp) (operands : List Operand) (work : Work) → IsFunctionWork (bound_of image) lowered.cells.items f operands work → taken_after work m.taken.items ≡ m.taken.items
+      function_not_next : (f : FunOp) (operands : List Operand) (work : Work) → IsFunctionWork (bound_of image) lowered.cells.items f operands work → taken_after work m.taken ≡ m.taken
       function_not_next f [] work none = absurd none
-      function_not_next f (a ∷ []) work (i, first, e) = ap (λ (w : Work). taken_after w m.taken.items) e
-      function_not_next f (a ∷ b ∷ []) work (i, j, first, second, e) = ap (λ (w : Work). taken_after w m.taken.items) e
+      function_not_next f (a ∷ []) work (i, first, e) = ap (λ (w : Work). taken_after w m.taken) e
+      function_not_next f (a ∷ b ∷ []) work (i, j, first, second, e) = ap (λ (w : Work). taken_after w m.taken) e
       function_not_next f (a ∷ b ∷ c ∷ operands) work none = absurd none
 
-      pub state_kept : state_of image flows new ≡ operated op.kind v (state_of image flows m)
+      pub state_kept : state_on image flows instant new ≡ operated op.kind v (state_on image flows instant m)
       state_kept = by op.kind for.work for.target (writes_within image right op.kind may) (stored_within image right op.kind may) where
         by : (k : ImageOpKind) → IsWorkOf image lowered.cells.items k instruction.work → instruction.target ≡ target_of image k → ((x : SigId) → Writes k x → x.0 < S)
-            → ((memory : ℕ) (x : SigId) → k ≡ does.Store memory x → memory < length image.memories) → state_of image flows new ≡ operated k v (state_of image flows m)
+            → ((memory : ℕ) (x : SigId) → k ≡ does.Store memory x → memory < length image.memories) → state_on image flows instant new ≡ operated k v (state_on image flows instant m)
         by (does.Read x) w t within stored =
             state_is _ _ _
-            (signal_registers image flows instruction v m new kept target_stamp target_cell x.0 t (within x refl))
-            (signal_memories image flows instruction v m new kept target_stamp target_cell x.0 t (within x refl))
-            (flows_read image flows instruction v m new kept x.0 w)
+            (signal_registers image flows instruction v instant m target_stamp target_cell x.0 t (within x refl))
+            (signal_memories image flows instruction v instant m target_stamp target_cell x.0 t (within x refl))
+            (flows_read image flows instruction v instant m x.0 w)
         by (does.Fun y f operands) w t within stored = signal_kept y.0 t (within y refl) (function_not_next f operands instruction.work w)
         by (does.Copy y x) w t within stored = signal_kept y.0 t (within y refl) (not_next instruction.work x.0 w)
         by (does.Const y value) (n, constant, w) t within stored = signal_kept y.0 t (within y refl) (not_next instruction.work n w)
         by (does.DelayRead y memory) w t within stored = signal_kept y.0 t (within y refl) (not_next instruction.work (S + memory) w)
         by (does.Store memory x) w t within stored =
             state_is _ _ _
-            (memory_registers image flows instruction v m new kept target_stamp target_cell memory t)
-            (memory_memories image flows instruction v m new kept target_stamp target_cell memory t (stored memory x refl))
-            (flows_same image flows instruction v m new kept (not_next instruction.work x.0 w))
+            (memory_registers image flows instruction v instant m target_stamp target_cell memory t)
+            (memory_memories image flows instruction v instant m target_stamp target_cell memory t (stored memory x refl))
+            (flows_same image flows instruction v instant m (not_next instruction.work x.0 w))
 
-      taken_length : (work : Work) → length (taken_after work m.taken.items) ≡ length m.taken.items
-      taken_length (Next x) = length-set m.taken.items x (slice_index_or m.taken.items x 0 + 1)
+      taken_length : (work : Work) → length (taken_after work m.taken) ≡ length m.taken
+      taken_length (Next x) = length-set m.taken x (slice_index_or m.taken x 0 + 1)
       taken_length (Copy source) = refl
       taken_length (One f a) = refl
       taken_length (Two f a b) = refl
@@ -171,18 +174,14 @@ module _ (image : ImageView) (lowered : Lowered) (lowers : Lowers image lowered)
       past_set (s ∷ stamps) (suc x) instant zero stamp before e = before zero stamp e
       past_set (s ∷ stamps) (suc x) instant (suc number) stamp before e = past_set stamps x instant number stamp (λ k. before (suc k)) e
 
-      pub machine_kept : IsMachineOf image lowered flows new
-      machine_kept = record {
-        cells = ap (λ (l : List ℤ). length l) kept.cells ∙ length-set m.cells.items instruction.target v ∙ is.cells;
-        stamps = ap (λ (l : List ℕ). length l) kept.stamps ∙ length-set m.stamps.items instruction.target m.instant ∙ is.stamps;
+      pub cells_kept : AreCellsOf image lowered flows instant new
+      cells_kept = record {
+        cells = length-set m.values instruction.target v ∙ is.cells;
+        stamps = length-set m.stamps instruction.target instant ∙ is.stamps;
         constants = λ number behind within.
             let t = target_inside in
-            ap (λ (l : List ℤ). cell l number) kept.cells
-            ∙ get_or-set_other m.cells.items instruction.target number v (pos 0) (λ e. omega (arith, e, behind, t))
+            get_or-set_other m.values instruction.target number v (pos 0) (λ e. omega (arith, e, behind, t))
             ∙ is.constants number behind within;
-        inputs = ap (λ (l : List ℕ). length l) kept.taken ∙ taken_length instruction.work ∙ is.inputs;
-        past = λ number stamp there.
-            let e = kept.instant in
-            let few = past_set m.stamps.items instruction.target m.instant number stamp is.past (subst (λ (l : List ℕ). slice_get l number ≡ Some stamp) kept.stamps there) in
-            omega (arith, e, few);
+        inputs = taken_length instruction.work ∙ is.inputs;
+        past = λ number stamp there. past_set m.stamps instruction.target instant number stamp is.past there;
       }

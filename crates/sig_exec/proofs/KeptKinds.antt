@@ -1,7 +1,6 @@
 -- What is kept of kinds: registers, memories and flows have values of their kinds, whatever an operation does.
 pub use Rattle.std.proofs.lemmas.Option.{same_Some}
 use Rattle.sig_exec.proofs.Common.{◌≡◌, ◌<◌, inr, ℕ, zero, suc, ℤ, Bool, true, false, List, [], ◌∷◌, length, map, replicate, Option, None, Some, refl, sym, ap, subst, arith, IsTrue, slice_get, slice_index_or, slice_set, ⊤, ◌&&◌, AllByRecursion, AllPass, list_all, list_all-from_AllPass, AreOfKinds, Bounded, Instant, IsOfKind, IsValue, Seen, seen_at, Kind, Boolean, Event, Integer, is_kind, kind_fits, value_is, value_of, IsMemory, accepts, accepts_value, is_same, kind_at, memory_at, sort_of, ImageMemory, ImageSignal}
-use Rattle.sig_file.specs.declared.images.ImageOpKind.TheVariants as does
 
 pub none_is : {A B : Type 0} (a : A) → None ≡ Some a → B
 none_is {A} {B} a e = absurd (let f : None ≡ Some a = e in cc)

@@ -1,5 +1,5 @@
 -- Instructions stay right where cells of constants are added.
-use Rattle.sig_exec.proofs.Common.{same_Some, ◌≡◌, ◌<◌, ◌≤◌, ◌++◌, inl, inr, ℕ, zero, suc, ℤ, pos, List, [], ◌∷◌, length, replicate, Some, refl, sym, ap, subst, ◌∙◌, arith, append_assoc, length-append, slice_get, length-map, length-replicate, FunOp, Operand, Const, Sig, ImageView, ImageMemory, ImageOp, ImageOpKind, AreFor, BeginWith, Grows, IsCellOf, IsConstant, IsFor, IsFunctionWork, IsWorkOf, bound_of, cell, inits_of, Instruction, Work, get_pushed}
+use Rattle.sig_exec.proofs.Common.{same_Some, ◌≡◌, ◌<◌, ◌≤◌, ◌++◌, inl, inr, ℕ, zero, suc, ℤ, pos, List, [], ◌∷◌, length, replicate, Some, refl, sym, ap, subst, ◌∙◌, arith, append_assoc, length-append, slice_get, length-map, length-replicate, FunOp, Operand, Const, Sig, ImageView, ImageMemory, ImageOp, ImageOpKind, BeginWith, Grows, IsCellOf, IsConstant, IsFor, IsFunctionWork, IsWorkOf, bound_of, cell, inits_of, Instruction, Work, get_pushed}
 use Rattle.sig_file.specs.declared.images.ImageOpKind.TheVariants as does
 
 -- signals and memories have their cells
@@ -11,11 +11,6 @@ begin_room image cells (more, all) =
     let fourth = length-replicate (length image.signals) (pos 0) in
     let fifth = length-map image.memories (λ (memory : ImageMemory). memory.init) in
     omega (arith, first, second, third, fourth, fifth)
-
-pub grow_begin : (image : ImageView) (old new : List ℤ) → BeginWith image old → Grows old new → BeginWith image new
-grow_begin image old new (more, all) (added, grown) =
-    let front = replicate (length image.signals) (pos 0) ++ inits_of image in
-    (more ++ added, grown ∙ ap (λ (l : List ℤ). l ++ added) all ∙ append_assoc front more added)
 
 -- cells in front stay
 cell_front : (first more : List ℤ) (n : ℕ) → n < length first → cell (first ++ more) n ≡ cell first n
@@ -46,13 +41,24 @@ work_grows image cells more (does.DelayRead y memory) work is = is
 work_grows image cells more (does.Store memory x) work is = is
 
 for_grows : (image : ImageView) (cells more : List ℤ) (op : ImageOp) (instruction : Instruction) → IsFor image cells op instruction → IsFor image (cells ++ more) op instruction
-for_grows image cells more op instruction is = record { work = work_grows image cells more op.kind instruction.work is.work; target = is.target; guard = is.guard }
+for_grows image cells more op instruction is = record { work = work_grows image cells more op.kind instruction.work is.work; target = is.target }
 
-pub one_more : (image : ImageView) (old new : List ℤ) (instructions : List Instruction) (instruction : Instruction) (op : ImageOp) → AreFor image old instructions → Grows old new
-    → slice_get image.ops (length instructions) ≡ Some op → IsFor image new op instruction → AreFor image new (instructions ++ instruction ∷ [])
-one_more image old new instructions instruction op are (more, grown) there is = λ place other that at here. elim (get_pushed instructions instruction place other at) [
-  | inl before ↦ subst (λ (cells : List ℤ). IsFor image cells that other) (sym grown) (for_grows image old more that other (are place other that before here))
+-- these instructions are for the first operations
+abbrev pub AreForFirst : ImageView → List ℤ → List Instruction → Type 0
+AreForFirst image cells instructions =
+    (place : ℕ) (instruction : Instruction) (op : ImageOp) → slice_get instructions place ≡ Some instruction → slice_get image.ops place ≡ Some op → IsFor image cells op instruction
+
+pub grows_then : (first middle last : List ℤ) → Grows first middle → Grows middle last → Grows first last
+grows_then first middle last (more, one) (added, two) = (more ++ added, two ∙ ap (λ (l : List ℤ). l ++ added) one ∙ append_assoc first more added)
+
+pub one_more : (image : ImageView) (old new : List ℤ) (instructions : List Instruction) (instruction : Instruction) (op : ImageOp) → AreForFirst image old instructions → Grows old new
+    → slice_get image.ops (length instructions) ≡ Some op → IsFor image new op instruction → AreForFirst image new (instructions ++ instruction ∷ [])
+one_more image old new instructions instruction op are (more, grown) there is = λ place that other at here. elim (get_pushed instructions instruction place that at) [
+  | inl before ↦ subst (λ (cells : List ℤ). IsFor image cells other that) (sym grown) (for_grows image old more other that (are place that other before here))
   | inr (last, same) ↦
-      let one : op ≡ that = same_Some op that (sym there ∙ ap (slice_get image.ops) (sym last) ∙ here) in
-      subst (λ (i : Instruction). IsFor image new that i) same (subst (λ (o : ImageOp). IsFor image new o instruction) one is)
+      let one : op ≡ other = same_Some op other (sym there ∙ ap (slice_get image.ops) (sym last) ∙ here) in
+      subst (λ (i : Instruction). IsFor image new other i) same (subst (λ (o : ImageOp). IsFor image new o instruction) one is)
 ]
+
+pub grows_longer : (old new : List ℤ) → Grows old new → length old ≤ length new
+grows_longer old new (more, grown) = let e = ap (λ (l : List ℤ). length l) grown in let f = length-append old more in omega (arith, e, f)

@@ -1,5 +1,5 @@
 -- A machine before the first instant, and at the start of each.
-use Rattle.sig_exec.proofs.Common.{◌≡◌, ◌<◌, ◌≤◌, ◌++◌, ℕ, zero, suc, ℤ, pos, Bool, true, false, List, [], ◌∷◌, length, take, drop, replicate, None, Some, refl, sym, ap, ◌∙◌, arith, eqb-true, append_assoc, slice_get, ◌==◌, length-map, length-replicate, Seen, guards_of, ImageView, State, cleared, opening, ImageMemory, Lowers, inits_of, IsMachineOf, left_of, shown, shown_all, state_of, Lowered, Machine}
+use Rattle.sig_exec.proofs.Common.{◌≡◌, ◌<◌, ◌≤◌, ◌++◌, ℕ, zero, suc, ℤ, pos, Bool, true, false, List, [], ◌∷◌, length, take, drop, replicate, None, Some, refl, sym, ap, ◌∙◌, arith, eqb-true, append_assoc, slice_get, ◌==◌, length-map, length-replicate, Seen, guards_of, ImageView, State, cleared, opening, ImageMemory, Lowers, inits_of, Cells, AreCellsOf, left_of, shown, shown_all, state_on, Lowered}
 use Rattle.sig_exec.proofs.InstructionWorks.{has_cells}
 
 -- a stamp before the instant is none of it
@@ -19,12 +19,12 @@ none_shown instant (t ∷ stamps) (v ∷ cells) (suc n) before a b =
     ∙ ap (λ (l : List Seen). None ∷ l) (none_shown instant stamps cells n (λ k. before (suc k)) (omega (arith, a)) (omega (arith, b)))
 
 -- at the start of a later instant no signal is written
-pub state_cleared : (image : ImageView) (lowered : Lowered) → Lowers image lowered → (flows : List (List ℤ)) (m : Machine) → IsMachineOf image lowered flows m → (instant : ℕ) → m.instant < instant
-    → state_of image flows (record m { instant = instant }) ≡ cleared (guards_of image) (state_of image flows m)
-state_cleared image lowered lowers flows m is instant later =
-    let has = has_cells image lowered lowers flows m is in
-    let none = none_shown instant m.stamps.items m.cells.items (length image.signals) (λ k s there. let few = is.past k s there in omega (arith, few, later)) has.stamps has.cells in
-    λ j. let s : State = record { registers = none j; memories = (state_of image flows m).memories; flows = (state_of image flows m).flows } in s
+pub state_cleared : (image : ImageView) (lowered : Lowered) → Lowers image lowered → (flows : List (List ℤ)) (before : ℕ) (m : Cells) → AreCellsOf image lowered flows before m → (instant : ℕ) → before < instant
+    → state_on image flows instant m ≡ cleared (guards_of image) (state_on image flows before m)
+state_cleared image lowered lowers flows before m is instant later =
+    let has = has_cells image lowered lowers flows before m is in
+    let none = none_shown instant m.stamps m.values (length image.signals) (λ k s there. let few = is.past k s there in omega (arith, few, later)) has.stamps has.cells in
+    λ j. let s : State = record { registers = none j; memories = (state_on image flows before m).memories; flows = (state_on image flows before m).flows } in s
 
 -- ---- before the first instant
 
@@ -44,16 +44,16 @@ none_taken : (flows : List (List ℤ)) (z : ℕ) → z ≡ 0 → left_of (replic
 none_taken [] z e = refl
 none_taken (flow ∷ flows) z e = ap (λ (k : ℕ). drop k flow ∷ left_of (replicate (length flows) z) flows) e ∙ ap (λ (l : List (List ℤ)). flow ∷ l) (none_taken flows z e)
 
-pub state_opening : (image : ImageView) (lowered : Lowered) → Lowers image lowered → (flows : List (List ℤ)) (m : Machine) → m.cells.items ≡ lowered.cells.items → m.taken.items ≡ replicate (length flows) 0
-    → cleared (guards_of image) (state_of image flows m) ≡ cleared (guards_of image) (opening (guards_of image) flows)
-state_opening image lowered lowers flows m cells taken =
+pub state_opening : (image : ImageView) (lowered : Lowered) → Lowers image lowered → (flows : List (List ℤ)) (instant : ℕ) (m : Cells) → m.values ≡ lowered.cells.items → m.taken ≡ replicate (length flows) 0
+    → cleared (guards_of image) (state_on image flows instant m) ≡ cleared (guards_of image) (opening (guards_of image) flows)
+state_opening image lowered lowers flows instant m cells taken =
     let (more, all) = lowers.opening in
     let zeros = replicate (length image.signals) (pos 0) in
     let inits = inits_of image in
-    let whole : m.cells.items ≡ zeros ++ (inits ++ more) = cells ∙ all ∙ append_assoc zeros inits more in
-    let memories : take (length image.memories) (drop (length image.signals) m.cells.items) ≡ inits =
+    let whole : m.values ≡ zeros ++ (inits ++ more) = cells ∙ all ∙ append_assoc zeros inits more in
+    let memories : take (length image.memories) (drop (length image.signals) m.values) ≡ inits =
     ap (λ (l : List ℤ). take (length image.memories) (drop (length image.signals) l)) whole
     ∙ ap (take (length image.memories)) (drop_front zeros (inits ++ more) (length image.signals) (sym (length-replicate (length image.signals) (pos 0))))
     ∙ take_front inits more (length image.memories) (sym (length-map image.memories (λ (memory : ImageMemory). memory.init))) in
-    let left : left_of m.taken.items flows ≡ flows = ap (λ (l : List ℕ). left_of l flows) taken ∙ none_taken flows 0 refl in
+    let left : left_of m.taken flows ≡ flows = ap (λ (l : List ℕ). left_of l flows) taken ∙ none_taken flows 0 refl in
     λ j. let s : State = record { registers = replicate (length image.signals) None; memories = memories j; flows = left j } in s

@@ -1,5 +1,5 @@
 -- What an operation comes to in a state, and what it leaves.
-use Rattle.sig_exec.proofs.Common.{◌≡◌, ◌<◌, inl, inr, ℕ, ℤ, pos, List, [], ◌∷◌, length, map, None, Some, Result, Ok, Err, unwrap_or, refl, sym, ap, ◌∙◌, length-set, get_or-set_other, get_or-set_same, Contains, slice_get, slice_set, slice_index_or, length-map, slice_get-get_or, operand_count as count_of, Instant, Seen, seen_at, SigId, Span, HaveValues, function_of, FunOp, Id, Neg, Not, And, Or, Xor, Eq, Ne, Lt, Le, Gt, Ge, Add, Sub, Mul, Div, Mod, Operand, Const, Sig, Reads, Writes, Does, Ends, State, written, ImageOpKind, cause_of, computed, Fault, Exhausted, contains_head, contains_later}
+use Rattle.sig_exec.proofs.Common.{◌≡◌, ◌<◌, inl, inr, ℕ, ℤ, pos, List, [], ◌∷◌, length, map, None, Some, Result, Ok, Err, unwrap_or, refl, sym, ap, ◌∙◌, length-set, get_or-set_other, get_or-set_same, Contains, slice_get, slice_set, slice_index_or, length-map, slice_get-get_or, operand_count as count_of, Instant, Seen, seen_at, SigId, Span, HaveValues, function_of, FunOp, Id, Neg, Not, And, Or, Xor, Eq, Ne, Lt, Le, Gt, Ge, Add, Sub, Mul, Div, Mod, Operand, Const, Sig, Reads, Writes, Does, Ends, State, written, ImageOpKind, cause_of, computed, answered, no_equation, Cause, Exhausted, contains_head, contains_later}
 use Rattle.sig_file.specs.Images.{operand_count}
 use Rattle.sig_file.specs.declared.images.ImageOpKind.TheVariants as does
 use Rattle.sig_exec.proofs.Results.{Computed, computed_is, overflow, result, zero_divisor}
@@ -12,7 +12,7 @@ operand_in registers (Sig x) = value_in (seen_at registers x.0)
 operand_in registers (Const constant) = constant
 
 -- the next value of what is left of an input
-abbrev pub next_in : SigId → List ℤ → Result ℤ Fault
+abbrev pub next_in : SigId → List ℤ → Result ℤ Cause
 next_in x [] = Err (Exhausted x)
 next_in x (v ∷ rest) = Ok v
 
@@ -21,9 +21,9 @@ behind_first [] = []
 behind_first (v ∷ rest) = rest
 
 -- what an operation comes to in a state
-abbrev pub outcome : ImageOpKind → State → Result ℤ Fault
+abbrev pub outcome : ImageOpKind → State → Result ℤ Cause
 outcome (does.Read x) s = next_in x (slice_index_or s.flows x.0 [])
-outcome (does.Fun y op operands) s = computed (function_of op) (map (operand_in s.registers) operands)
+outcome (does.Fun y op operands) s = answered (computed no_equation (function_of op) (map (operand_in s.registers) operands))
 outcome (does.Copy y x) s = Ok (value_in (seen_at s.registers x.0))
 outcome (does.Const y value) s = Ok value
 outcome (does.DelayRead y memory) s = Ok (slice_index_or s.memories memory (pos 0))
@@ -82,16 +82,16 @@ counts Div = refl
 counts Mod = refl
 
 -- an operation does what leads from a state to what it leaves, or ends the run
-abbrev pub Comes : ImageOpKind → Span → State → Result ℤ Fault → Type 0
+abbrev pub Comes : ImageOpKind → Span → State → Result ℤ Cause → Type 0
 Comes kind at s (Ok v) = Does kind s (operated kind v s)
-Comes kind at s (Err fault) = Ends kind at s (cause_of at fault)
+Comes kind at s (Err cause) = Ends kind at s (cause_of at cause)
 
 next_comes : (x : SigId) (at : Span) (s : State) (flow : List ℤ) → slice_get s.flows x.0 ≡ Some flow → slice_index_or s.flows x.0 [] ≡ flow → Comes (does.Read x) at s (next_in x flow)
 next_comes x at s [] there is = (there, refl)
 next_comes x at s (v ∷ rest) there is = (v, rest, there, ap (λ (l : List ℤ). written x v (record s { flows = slice_set s.flows x.0 (behind_first l) })) is)
 
 function_comes : (y : SigId) (op : FunOp) (operands : List Operand) (at : Span) (s : State) (values : List ℤ) → HaveValues s.registers operands values
-    → (r : Result ℤ Fault) → Computed (function_of op) values r → Comes (does.Fun y op operands) at s r
+    → (r : Result ℤ Cause) → Computed (function_of op) values r → Comes (does.Fun y op operands) at s r
 function_comes y op operands at s values have r (result v gives small) = (v, (values, have, gives), small, refl)
 function_comes y op operands at s values have r (overflow v gives large) = inl (v, (values, have, gives), large, refl)
 function_comes y op operands at s values have r (zero_divisor zeroed) = inr (values, have, zeroed, refl)
@@ -102,7 +102,7 @@ comes (does.Read x) at s places reads =
 comes (does.Fun y op operands) at s places reads =
     let values = map (operand_in s.registers) operands in
     let count = length-map operands (operand_in s.registers) ∙ places ∙ counts op in
-    function_comes y op operands at s values (have_values s.registers operands reads) (computed (function_of op) values) (computed_is (function_of op) values count)
+    function_comes y op operands at s values (have_values s.registers operands reads) (answered (computed no_equation (function_of op) values)) (computed_is (function_of op) values count)
 comes (does.Copy y x) at s places reads = (value_in (seen_at s.registers x.0), there_is (seen_at s.registers x.0) (reads x refl), refl)
 comes (does.Const y value) at s places reads = refl
 comes (does.DelayRead y memory) at s places reads = (slice_index_or s.memories memory (pos 0), slice_get-get_or s.memories memory (pos 0) places, refl)

@@ -3,7 +3,7 @@ use Rattle.sig_exec.proofs.Common.{◌≡◌, ◌<◌, ℕ, ℤ, true, false, Li
 use Rattle.sig_file.specs.declared.images.ImageOpKind.TheVariants as does
 use Rattle.sig_exec.proofs.OperationOutcomes.{HasPlaces}
 
-signal_of : (signals : List ImageSignal) (x : ℕ) → (kind_at signals x ≡ None → ⊥) → x < length signals
+pub signal_of : (signals : List ImageSignal) (x : ℕ) → (kind_at signals x ≡ None → ⊥) → x < length signals
 signal_of signals x some = by (slice_get signals x) refl where
   by : (o : Option ImageSignal) → slice_get signals x ≡ o → x < length signals
   by None e = absurd (some (ap kind_in e))

@@ -1,6 +1,8 @@
 -- The results of functions are what functions give.
-use Rattle.sig_exec.proofs.Common.{◌≡◌, ◌≢◌, ◌⊎◌, inl, inr, ℤ, pos, Bool, true, false, List, [], ◌∷◌, length, refl, sym, ◌∙◌, arith, Result, Ok, Err, not, ◌&&◌, ◌||◌, ◌<ℤ◌, ◌≤ℤ◌, int_lt, int_le, int_eq, Decides-int_eq, ints, Function, Identity, Negative, Equal, NotEqual, Less, LessEqual, Greater, GreaterEqual, Sum, Difference, Product, Quotient, Remainder, Gives, Tells, operand_count, Bounded, has_64_bits, HasZeroDivisor, computed, divides_by_zero, result_of, truth_value, Fault, Overflow, ZeroDivisor}
+use Rattle.sig_exec.proofs.Common.{◌≡◌, ◌≢◌, ◌⊎◌, inl, inr, ℤ, pos, Bool, true, false, List, [], ◌∷◌, length, refl, sym, ◌∙◌, arith, Result, Ok, Err, not, ◌&&◌, ◌||◌, ◌<ℤ◌, ◌≤ℤ◌, int_lt, int_le, int_eq, Decides-int_eq, ints, Function, Identity, Negative, Equal, NotEqual, Less, LessEqual, Greater, GreaterEqual, Sum, Difference, Product, Quotient, Remainder, Gives, Tells, operand_count, Bounded, has_64_bits, HasZeroDivisor, computed, divides_by_zero, result_of, truth_value, answered, no_equation, Cause, Overflow, ZeroDivisor}
+use Rattle.std.specs.Prelude.{negsuc}
 use Rattle.sig_base.specs.Functions.{Not, And, Or, Xor}
+use Rattle.sig_model.specs.Results.{has_64_bits as has_bits}
 
 -- a test that decides a statement
 pub record Tests (b : Bool) (Statement : Type 0) : Type 0 where
@@ -107,15 +109,20 @@ by_zero function values is = absurd (let e : false ≡ true = is in cc)
 -- ---- what is computed
 
 -- what is computed is a result of 64 bits, or a result that has not 64 bits, or a division by 0
-pub data Computed (function : Function) (values : List ℤ) : Result ℤ Fault → Type 0 where
+pub data Computed (function : Function) (values : List ℤ) : Result ℤ Cause → Type 0 where
   result : (v : ℤ) → Gives Bounded function values v → has_64_bits v ≡ true → Computed function values (Ok v)
-  overflow : (v : ℤ) → Gives Bounded function values v → has_64_bits v ≡ false → Computed function values (Err Overflow)
-  zero_divisor : HasZeroDivisor function values → Computed function values (Err ZeroDivisor)
+  overflow : (v : ℤ) → Gives Bounded function values v → has_64_bits v ≡ false → Computed function values (Err (Overflow no_equation))
+  zero_divisor : HasZeroDivisor function values → Computed function values (Err (ZeroDivisor no_equation))
 
-pub computed_is : (function : Function) (values : List ℤ) → length values ≡ operand_count function → Computed function values (computed function values)
-computed_is function values count = by (divides_by_zero function values) (has_64_bits (result_of function values)) refl refl where
-  by : (zeroed small : Bool) → divides_by_zero function values ≡ zeroed → has_64_bits (result_of function values) ≡ small
-      → Computed function values (computed function values)
+-- both tests of 64 bits are one
+same_bits : (v : ℤ) → has_bits v ≡ has_64_bits v
+same_bits (pos n) = refl
+same_bits (negsuc n) = refl
+
+pub computed_is : (function : Function) (values : List ℤ) → length values ≡ operand_count function → Computed function values (answered (computed no_equation function values))
+computed_is function values count = by (divides_by_zero function values) (has_bits (result_of function values)) refl refl where
+  by : (zeroed small : Bool) → divides_by_zero function values ≡ zeroed → has_bits (result_of function values) ≡ small
+      → Computed function values (answered (computed no_equation function values))
   by true small one two = rw one (zero_divisor (by_zero function values one))
-  by false true one two = rw one (rw two (result (result_of function values) (given function values count one) two))
-  by false false one two = rw one (rw two (overflow (result_of function values) (given function values count one) two))
+  by false true one two = rw one (rw two (result (result_of function values) (given function values count one) (sym (same_bits (result_of function values)) ∙ two)))
+  by false false one two = rw one (rw two (overflow (result_of function values) (given function values count one) (sym (same_bits (result_of function values)) ∙ two)))

@@ -1,5 +1,5 @@
 -- A sound image has a run.
-use Rattle.sig_exec.proofs.Common.{◌≡◌, ◌+◌, ◌++◌, ◌⊎◌, inl, inr, ℕ, zero, suc, ℤ, Bool, true, false, List, [], ◌∷◌, length, Some, Result, Ok, Err, refl, sym, ap, subst, ◌∙◌, append_assoc, length-append, slice_get, flat_map, length-map, Trace, Guarded, Guards, IsSoundImage, guards_of, ImageView, IsImage, EndsIn, Handles, HandlesAll, IsImageRun, Runs, State, cleared, holds, instant_lines, opening, ImageMemory, ImageCause, Limit, ImageEnd, IsAmid, cause_of, Fault}
+use Rattle.sig_exec.proofs.Common.{◌≡◌, ◌+◌, ◌++◌, ◌⊎◌, inl, inr, ℕ, zero, suc, ℤ, Bool, true, false, List, [], ◌∷◌, length, Some, Result, Ok, Err, refl, sym, ap, subst, ◌∙◌, append_assoc, length-append, slice_get, flat_map, length-map, Trace, Guarded, Guards, IsSoundImage, guards_of, ImageView, IsImage, EndsIn, Handles, HandlesAll, IsImageRun, Runs, State, cleared, holds, instant_lines, opening, ImageMemory, ImageCause, Limit, ImageEnd, IsAmid, cause_of, Cause}
 use Rattle.sig_exec.proofs.Amid.{amid_cleared, behind_done, behind_passed, reads_there}
 use Rattle.sig_exec.proofs.OperationOutcomes.{Comes, comes, operated, outcome}
 use Rattle.sig_exec.proofs.Places.{has_places, may_do}
@@ -33,7 +33,7 @@ module _ (image : ImageView) (right : IsImage image) (sound : IsSoundImage image
   operation_goes : (op : Guarded) (rest : List Guarded) (n : ℕ) → slice_get guards.ops n ≡ Some op → (s : State) → IsAmid image n s → ((middle : State) → IsAmid image (n + 1) middle → GoesOn rest middle)
       → GoesOn (op ∷ rest) s
   operation_goes op rest n is s amid next = by (holds guards op s) refl where
-    done : holds guards op s ≡ true → (r : Result ℤ Fault) → Comes op.kind op.at s r → GoesOn (op ∷ rest) s
+    done : holds guards op s ≡ true → (r : Result ℤ Cause) → Comes op.kind op.at s r → GoesOn (op ∷ rest) s
     done on (Ok v) did = one_more op rest s (operated op.kind v s) (inl (on, did)) (next (operated op.kind v s) (behind_done image right sound n op is s amid on v))
     done on (Err fault) ends = inr (cause_of op.at fault, inl (on, ends))
 

@@ -1,5 +1,5 @@
 -- An image has one run.
-use Rattle.sig_exec.proofs.Common.{same_Some, ◌≡◌, ◌≤◌, arith, inl, inr, ℕ, zero, suc, ℤ, Bool, true, false, List, [], ◌∷◌, length, Some, refl, sym, ap, subst, ◌∙◌, slice_set, flat_map, Gives, Bounded, Instant, Trace, has_64_bits, Span, HaveValues, function_of, Operand, Const, Sig, Guarded, Guards, guards_of, ImageView, Does, Ends, EndsIn, Handles, HandlesAll, HasZeroDivisor, IsImageRun, Runs, State, cleared, holds, instant_lines, opening, written, ImageOpKind, ImageCause, ImageEnd}
+use Rattle.sig_exec.proofs.Common.{same_Some, ◌≡◌, ◌≤◌, arith, inl, inr, ℕ, zero, suc, ℤ, Bool, true, false, List, [], ◌∷◌, length, refl, sym, ap, subst, ◌∙◌, slice_set, flat_map, Gives, Bounded, Instant, Trace, has_64_bits, Span, HaveValues, function_of, Operand, Const, Sig, Guarded, Guards, guards_of, ImageView, Does, Ends, EndsIn, Handles, HandlesAll, HasZeroDivisor, IsImageRun, Runs, State, cleared, holds, instant_lines, opening, written, ImageOpKind, ImageCause, ImageEnd}
 use Rattle.sig_file.specs.declared.images.ImageOpKind.TheVariants as does
 use Rattle.sig_exec.proofs.Results.{gives_one, zero_gives_nothing}
 

@@ -1,6 +1,6 @@
 -- Definitions that no other crate cites.
+pub mod Functions
 pub mod Instants
 pub mod Lowerings
 pub mod Machines
 pub mod Outcomes
-pub mod Results

@@ -2,6 +2,7 @@
 
 ghost use Rattle.std.specs.Prelude.{◌≡◌, ◌≤◌};
 ghost use Rattle.sig_exec.specs.Prelude.{Err, IfOk, IsSoundImage, OnErr, Rose, cleared, guards_of, length, opening};
+ghost use Rattle.sig_exec.specs.inner.Instants.{AreOutputs};
 ghost use Rattle.sig_exec.specs.inner.Lowerings.{Lowers};
 ghost use Rattle.sig_exec.specs.inner.Machines.{IsMachineOf, state_of};
 ghost use Rattle.sig_exec.specs.Running.{AreFlowsOf, TookRun, TookSome};
@@ -12,7 +13,7 @@ use crate::images::{image_of, images_are_right};
 use crate::lowered::Lowered;
 use crate::lowering::lower;
 use crate::machine::Machine;
-use crate::putting::put_instant;
+use crate::putting::Outputs;
 use sig_file::{Image, ImageCause, ImageEnd};
 use sig_kernel::Inputs;
 use sig_text::{Sink, WriteFault};
@@ -44,7 +45,18 @@ pub fn exec<S: Sink>(
     let Ok(mut machine) = Machine::new(alloc, &lowered, inputs) else {
         return Err(ExecAnswer::OutOfMemory);
     };
-    match run(&mut machine, image, &lowered, inputs, limit, sink) {
+    let Ok(mut outputs) = Outputs::new(alloc, image) else {
+        return Err(ExecAnswer::OutOfMemory);
+    };
+    match run(
+        &mut machine,
+        image,
+        &lowered,
+        &mut outputs,
+        inputs,
+        limit,
+        sink,
+    ) {
         Ok(end) => Ok(end),
         Err(WriteFault) => Err(ExecAnswer::WriteFault),
     }
@@ -55,6 +67,7 @@ fn run<S: Sink>(
     machine: &mut Machine,
     image: &Image,
     lowered: &Lowered,
+    outputs: &mut Outputs,
     inputs: &Inputs,
     limit: u32,
     sink: &mut S,
@@ -63,6 +76,7 @@ fn run<S: Sink>(
     requires inputs { length inputs.now ≡ image.now.inputs }
     requires lowers { Lowers image.now lowered.now }
     requires machine { IsMachineOf image.now lowered.now inputs.now machine.old }
+    requires outputs { AreOutputs image.now outputs.old }
     requires instant { machine.old.instant ≡ 0 }
     requires opening { cleared (guards_of image.now) (state_of image.now inputs.now machine.old)
         ≡ cleared (guards_of image.now) (opening (guards_of image.now) inputs.now) }
@@ -80,7 +94,7 @@ fn run<S: Sink>(
                 cause,
             });
         }
-        put_instant(machine, image, sink)?;
+        outputs.put(machine, image, sink)?;
     }
     Ok(ImageEnd {
         instants: limit,

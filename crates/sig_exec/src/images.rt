@@ -26,6 +26,13 @@ pub(crate) fn images_are_right(image: &Image)
     let _signals = &image.signals;
 }
 
+/// How many signals there are.
+pub(crate) fn signal_count(image: &Image) -> usize
+    ensures { result ≡ length image.now.signals }
+{
+    image.signals.len()
+}
+
 /// How many inputs there are.
 pub(crate) fn inputs_of(image: &Image) -> u32
     ensures { result ≡ image.now.inputs }
@@ -56,12 +63,11 @@ pub(crate) fn node_at(image: &Image, place: usize) -> ImageNode
     image.nodes[place]
 }
 
-/// The condition of a number.
-pub(crate) fn condition_at(image: &Image, place: usize) -> SigId
-    requires { place < length image.now.conditions }
-    ensures { slice_get image.now.conditions place ≡ Some result }
+/// The conditions.
+pub(crate) fn conditions_of(image: &Image) -> &[SigId]
+    ensures { result.now ≡ image.now.conditions }
 {
-    image.conditions[place]
+    image.conditions.as_slice()
 }
 
 /// The operations.

@@ -1,22 +1,19 @@
 //! Runs of verified images: the operations are done one after another in the image's order, instant by instant, with no
 //! compiling and no look whether what they read was written. What the run of an image is, sig_file defines. It stands on
-//! sig_verify, whose images it runs, and on sig_flow for the text of values.
+//! sig_verify, whose images it runs, on sig_cells, by which their instructions go, and on sig_flow for the text of values.
 #![tactic(auto)]
 
 mod answer;
-mod computed;
 mod execute;
 mod fault;
-mod guard;
+mod functions;
 mod images;
-mod instruction;
 mod laws;
 mod lowered;
 mod lowering;
 mod machine;
 mod putting;
 mod react;
-mod works;
 
 pub use answer::ExecAnswer;
 pub use execute::exec;

@@ -2,11 +2,14 @@
 
 ghost use Rattle.std.specs.Prelude.{◌≡◌, ◌≤◌, ◌<◌, ◌+◌, ◌++◌, ◌∷◌};
 ghost use Rattle.sig_exec.specs.Prelude.{ℕ, IfOk, [], length, pos, replicate, IsOperation, scope_of};
-ghost use Rattle.sig_exec.specs.inner.Lowerings.{Grows, IsCellOf, IsFor, IsFunctionWork, IsWorkOf, Lowers, bound_of, inits_of, target_of};
+ghost use Rattle.sig_exec.specs.inner.Functions.{AreFunctions};
+ghost use Rattle.sig_exec.specs.inner.Lowerings.{AreFor, AreGuardsOf, Grows, IsCellOf, IsFor, IsFunctionWork, IsWorkOf, Lowers, bound_of, inits_of, target_of};
 
-use crate::images::{images_are_right, op_at};
-use crate::instruction::{Instruction, Work};
+use crate::functions::Functions;
+use crate::images::{conditions_of, images_are_right, op_at, signal_count};
 use crate::lowered::Lowered;
+use sig_cells::{Code, Instruction, Work};
+use sig_dd::Ref;
 use sig_file::{Image, ImageOp, ImageOpKind};
 use sig_kernel::{FunOp, Operand};
 use std::alloc::{AllocError, Global};
@@ -15,16 +18,55 @@ use std::alloc::{AllocError, Global};
 pub(crate) fn lower(alloc: Global, image: &Image) -> Result<Lowered, AllocError>
     ensures { IfOk result (Lowers image.now) }
 {
+    images_are_right(image);
+    let functions = Functions::new(alloc, image)?;
     let mut cells = opening_cells(alloc, image)?;
-    let mut instructions = Vec::new(alloc);
-    for place in 0..image.ops.len() {
-        let op = op_at(image, place);
-        instructions.push(instruction_of(image, op, &mut cells)?)?;
-    }
-    Ok(Lowered {
+    let guards = guards_of(alloc, image, &functions)?;
+    let instructions = instructions_of(alloc, image, &mut cells)?;
+    let code = Code::new(
+        alloc,
+        &functions.store,
+        conditions_of(image),
+        signal_count(image),
+        guards.as_slice(),
         instructions,
+    )?;
+    Ok(Lowered {
+        functions,
+        code,
         cells,
     })
+}
+
+/// The functions of the guards of the operations.
+fn guards_of(alloc: Global, image: &Image, functions: &Functions) -> Result<Vec<Ref>, AllocError>
+    requires { AreFunctions image.now functions.now }
+    ensures { IfOk result (λ guards. AreGuardsOf image.now functions.now guards.items) }
+{
+    images_are_right(image);
+    let mut guards = Vec::new(alloc);
+    for place in 0..image.ops.len() {
+        guards.push(functions.refs[op_at(image, place).guard as usize])?;
+    }
+    Ok(guards)
+}
+
+/// The instructions of the operations, to which the cells of constants are added.
+fn instructions_of(
+    alloc: Global,
+    image: &Image,
+    cells: &mut Vec<i64>,
+) -> Result<Vec<Instruction>, AllocError>
+    requires { bound_of image.now ≤ length cells.old.items }
+    ensures grows { IfOk result (λ instructions. Grows cells.old.items cells.new.items) }
+    ensures each { IfOk result (λ instructions. AreFor image.now cells.new.items instructions.items) }
+{
+    images_are_right(image);
+    let mut instructions = Vec::new(alloc);
+    for place in 0..image.ops.len() {
+        instructions.push(instruction_of(image, op_at(image, place), cells)?)?;
+    }
+    Ok(instructions)
 }
 
 /// The cells of the signals, and those of the memories with what they have at first.
@@ -68,11 +110,7 @@ fn instruction_of(
 {
     let work = work_of(image, op, cells)?;
     let target = target_of(image, op);
-    Ok(Instruction {
-        work,
-        target,
-        guard: op.guard,
-    })
+    Ok(Instruction { work, target })
 }
 
 /// The cell that an operation writes.

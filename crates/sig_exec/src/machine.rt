@@ -54,6 +54,7 @@ impl Machine {
     }
 
     /// What a signal is in this instant, as far as it was written.
+    #[inline(always)]
     pub(crate) fn seen(&self, x: u32) -> Option<i64>
         requires cells { x < length self.now.cells.items }
         requires stamps { x < length self.now.stamps.items }

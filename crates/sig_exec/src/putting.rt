@@ -1,54 +1,111 @@
 //! The text of an instant.
 
-ghost use Rattle.std.specs.Prelude.{◌≤◌, ◌<◌};
-ghost use Rattle.sig_exec.specs.Prelude.{OnErr, OnOk, Rose, TookPrefix, instant_lines, length};
-ghost use Rattle.sig_exec.specs.inner.Instants.{line_at};
+ghost use Rattle.std.specs.Prelude.{◌≡◌, ◌≤◌, ◌<◌, ◌+◌, ◌++◌};
+ghost use Rattle.sig_exec.specs.Prelude.{ℕ, IfOk, OnErr, OnOk, Rose, TookPrefix, instant_lines, length, longest_line, Some, slice_get, ImageSignal, Signal};
+ghost use Rattle.sig_exec.specs.inner.Instants.{AreOutputs, IsOutput, line_of_seen};
 ghost use Rattle.sig_exec.specs.inner.Machines.{HasCells, registers_of};
 
 use crate::images::{images_are_right, inputs_of, outputs_of, signal_at};
 use crate::machine::Machine;
-use sig_file::Image;
-use sig_flow::put_value;
-use sig_text::{Sink, WriteFault};
+use sig_base::{Signal, Span, Text};
+use sig_file::{Image, ImageSignal};
+use sig_flow::OutputLines;
+use sig_text::{Sink, WriteFault, put_all};
+use std::alloc::{AllocError, Global};
 
-/// Appends the lines of the outputs that were written, in their order; where a write fails, a prefix of them. It takes no
-/// memory.
-pub(crate) fn put_instant<S: Sink>(
-    machine: &Machine,
-    image: &Image,
-    sink: &mut S,
-) -> Result<(), WriteFault>
-    requires cells { HasCells image.now machine.now }
-    ensures all { OnOk result (S.took sink.old (instant_lines image.now (registers_of image.now machine.now)) sink.new) }
-    ensures prefix { OnErr result (TookPrefix S.took sink.old (instant_lines image.now (registers_of image.now machine.now)) sink.new) }
-    ensures failed { OnErr result (Rose (S.faults sink.old) (S.faults sink.new)) }
-    ensures faults_stay { S.faults sink.old ≤ S.faults sink.new }
+/// The outputs of an image, in their order, as signals of a program, with room for the lines of an instant.
+#[derive(Drop)]
+pub(crate) struct Outputs {
+    pub(crate) signals: Vec<Signal>,
+    pub(crate) lines: OutputLines,
+}
+
+impl Outputs {
+    /// Those of an image. All memory that their text will need is taken here.
+    pub(crate) fn new(alloc: Global, image: &Image) -> Result<Outputs, AllocError>
+        ensures { IfOk result (AreOutputs image.now) }
+    {
+        let signals = signals_of(alloc, image)?;
+        let lines = OutputLines::new(alloc, signals.as_slice())?;
+        Ok(Outputs { signals, lines })
+    }
+
+    /// Appends the lines of the outputs that were written, in their order; where a write fails, a prefix of them. The sink is
+    /// given them at once. It takes no memory.
+    pub(crate) fn put<S: Sink>(
+        &mut self,
+        machine: &Machine,
+        image: &Image,
+        sink: &mut S,
+    ) -> Result<(), WriteFault>
+        requires outputs { AreOutputs image.now self.old }
+        requires cells { HasCells image.now machine.now }
+        ensures outputs { AreOutputs image.now self.new }
+        ensures all { OnOk result (S.took sink.old (instant_lines image.now (registers_of image.now machine.now)) sink.new) }
+        ensures prefix { OnErr result (TookPrefix S.took sink.old (instant_lines image.now (registers_of image.now machine.now)) sink.new) }
+        ensures failed { OnErr result (Rose (S.faults sink.old) (S.faults sink.new)) }
+        ensures faults_stay { S.faults sink.old ≤ S.faults sink.new }
+    {
+        self.make(machine, image);
+        put_all(sink, self.lines.as_bytes())
+    }
+
+    /// Makes the lines those of the outputs that were written, from the last one to the first.
+    #[inline(never)]
+    fn make(&mut self, machine: &Machine, image: &Image)
+        requires outputs { AreOutputs image.now self.old }
+        requires cells { HasCells image.now machine.now }
+        ensures outputs { AreOutputs image.now self.new }
+        ensures text { self.new.lines.text ≡ instant_lines image.now (registers_of image.now machine.now) }
+    {
+        images_are_right(image);
+        let inputs = inputs_of(image);
+        let outputs = outputs_of(image);
+        self.lines.clear();
+        for behind in 0..outputs {
+            let output = outputs - 1 - behind;
+            let seen = machine.seen(inputs + output);
+            put_seen(&self.signals[output as usize], seen, &mut self.lines);
+        }
+    }
+}
+
+/// Puts the line of a signal in front, where it was written.
+#[inline(always)]
+fn put_seen(signal: &Signal, seen: Option<i64>, lines: &mut OutputLines)
+    requires { length lines.old.text + longest_line signal.now ≤ lines.old.size }
+    ensures size { lines.new.size ≡ lines.old.size }
+    ensures text { lines.new.text ≡ line_of_seen signal.now seen ++ lines.old.text }
+    ensures longest { length lines.new.text ≤ length lines.old.text + longest_line signal.now }
+{
+    if let Some(value) = seen {
+        lines.put_in_front(signal, value);
+    }
+}
+
+/// The outputs of an image as signals.
+fn signals_of(alloc: Global, image: &Image) -> Result<Vec<Signal>, AllocError>
+    ensures count { IfOk result (λ signals. length signals.items ≡ image.now.outputs) }
+    ensures each { IfOk result (λ signals. (place : ℕ) (output : Signal) → slice_get signals.items place ≡ Some output
+        → (signal : ImageSignal) → slice_get image.now.signals (image.now.inputs + place) ≡ Some signal → IsOutput signal output) }
 {
     images_are_right(image);
     let inputs = inputs_of(image);
+    let mut signals = Vec::new(alloc);
     for output in 0..outputs_of(image) {
-        put_signal(machine, image, inputs + output, sink)?;
+        signals.push(output_of(alloc, signal_at(image, (inputs + output) as usize))?)?;
     }
-    Ok(())
+    Ok(signals)
 }
 
-/// Appends the line of a signal, where it was written.
-fn put_signal<S: Sink>(
-    machine: &Machine,
-    image: &Image,
-    number: u32,
-    sink: &mut S,
-) -> Result<(), WriteFault>
-    requires within { number < length image.now.signals }
-    requires cells { HasCells image.now machine.now }
-    ensures all { OnOk result (S.took sink.old (line_at image.now (registers_of image.now machine.now) number) sink.new) }
-    ensures prefix { OnErr result (TookPrefix S.took sink.old (line_at image.now (registers_of image.now machine.now) number) sink.new) }
-    ensures failed { OnErr result (Rose (S.faults sink.old) (S.faults sink.new)) }
-    ensures faults_stay { S.faults sink.old ≤ S.faults sink.new }
+/// A signal of an image as one of a program.
+fn output_of(alloc: Global, signal: &ImageSignal) -> Result<Signal, AllocError>
+    ensures { IfOk result (IsOutput signal.now) }
 {
-    let signal = signal_at(image, number as usize);
-    match machine.seen(number) {
-        Some(value) => put_value(sink, &signal.name, signal.kind, value),
-        None => Ok(()),
-    }
+    Ok(Signal {
+        name: Text::from_bytes(alloc, signal.name.as_bytes())?,
+        kind: signal.kind,
+        cluster: 0,
+        at: Span { line: 1, col: 1 },
+    })
 }

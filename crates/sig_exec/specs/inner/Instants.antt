@@ -1,6 +1,7 @@
 -- An instant of an image, amid its operations.
-use Rattle.std.specs.Prelude.{◌≡◌}
-use Rattle.sig_exec.specs.Prelude.{ℕ, ℤ, List, [], length, slice_get, take, None, Option, Some, Seen, Instant, SigId, seen_at, Does, Ends, HandlesAll, ImageCause, ImageOp, ImageSignal, ImageView, Ref, State, guards_of, proposal_of, seen_line}
+use Rattle.std.specs.Prelude.{◌≡◌, ◌≤◌, ◌+◌}
+use Rattle.sig_exec.specs.Prelude.{ℕ, ℤ, List, [], length, slice_get, take, None, Some, Seen, SigId, seen_at, Does, Ends, HandlesAll, ImageCause, ImageOp, ImageSignal, ImageView, Ref, State, guards_of, Signal, line_of, longest_lines, proposal_of}
+use Rattle.sig_exec.specs.declared.putting.Outputs.{Outputs}
 use Rattle.sig_file.specs.Guarded.{IsWrittenBefore}
 
 -- A state may stand before operation n of an instant of an image: what earlier operations wrote is there.
@@ -32,11 +33,19 @@ EndsAt image n s cause = (op : ImageOp) → slice_get image.ops n ≡ Some op �
 
 -- ---- lines
 
--- the line of a signal, where there is one and it was written
-abbrev pub line_where : Option ImageSignal → Seen → List ℕ
-line_where None seen = []
-line_where (Some signal) seen = seen_line signal seen
+-- the line of an output, where it was written
+abbrev pub line_of_seen : Signal → Seen → List ℕ
+line_of_seen output None = []
+line_of_seen output (Some v) = line_of output.name output.kind v
 
--- the line of the signal of a number
-abbrev pub line_at : ImageView → Instant → ℕ → List ℕ
-line_at image registers number = line_where (slice_get image.signals number) (seen_at registers number)
+-- a signal of a program has the name and the kind of one of an image
+pub record IsOutput (signal : ImageSignal) (output : Signal) : Type 0 where
+  pub name : output.name ≡ signal.name
+  pub kind : output.kind ≡ signal.kind
+
+-- The outputs of an image, in their order, and room for their lines.
+pub record AreOutputs (image : ImageView) (outputs : Outputs) : Type 0 where
+  pub count : length outputs.signals.items ≡ image.outputs
+  pub each : (place : ℕ) (output : Signal) → slice_get outputs.signals.items place ≡ Some output
+      → (signal : ImageSignal) → slice_get image.signals (image.inputs + place) ≡ Some signal → IsOutput signal output
+  pub room : longest_lines outputs.signals.items ≤ outputs.lines.size

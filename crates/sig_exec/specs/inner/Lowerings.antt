@@ -1,15 +1,17 @@
 -- The form of an image in which a machine runs it. The cells are those of the signals, then those of the memories, then
 -- constants.
 use Rattle.std.specs.Prelude.{◌≡◌, ◌<◌, ◌≤◌, ◌+◌, ◌++◌, ◌∷◌}
-use Rattle.sig_exec.specs.Prelude.{ℕ, ℤ, pos, List, [], length, map, replicate, slice_get, slice_index_or, Some, FunOp, Operand, Sig, Const, ImageView, ImageOp, ImageOpKind}
-use Rattle.sig_exec.specs.declared.instruction.Instruction.{Instruction}
-use Rattle.sig_exec.specs.declared.instruction.Work.{Work}
-use Rattle.sig_exec.specs.declared.instruction.Work.TheVariants.{Next, Copy, One, Two}
+use Rattle.sig_exec.specs.Prelude.{ℕ, ℤ, pos, List, [], length, map, replicate, slice_get, Some, FunOp, Operand, Sig, Const, ImageView, ImageOp, ImageOpKind, Ref}
+pub use Rattle.sig_cells.specs.Instructions.{cell}
+use Rattle.sig_cells.specs.Codes.{IsCode, guards_in, instructions_in, scope_in}
+use Rattle.sig_cells.specs.Guards.{scope_of}
+use Rattle.sig_cells.specs.declared.instruction.Instruction.{Instruction}
+use Rattle.sig_cells.specs.declared.instruction.Work.{Work}
+use Rattle.sig_cells.specs.declared.instruction.Work.TheVariants.{Next, Copy, One, Two}
+use Rattle.sig_exec.specs.inner.Functions.{AreFunctions}
+use Rattle.sig_exec.specs.declared.functions.Functions.{Functions}
 use Rattle.sig_exec.specs.declared.lowered.Lowered.{Lowered}
 use Rattle.sig_file.specs.declared.images.ImageOpKind.TheVariants as does
-
-abbrev pub cell : List ℤ → ℕ → ℤ
-cell cells number = slice_index_or cells number (pos 0)
 
 -- cells were added
 abbrev pub Grows : List ℤ → List ℤ → Type 0
@@ -60,13 +62,18 @@ target_of image (does.Store memory x) = length image.signals + memory
 pub record IsFor (image : ImageView) (cells : List ℤ) (op : ImageOp) (instruction : Instruction) : Type 0 where
   pub work : IsWorkOf image cells op.kind instruction.work
   pub target : instruction.target ≡ target_of image op.kind
-  pub guard : instruction.guard ≡ op.guard
 
--- the instructions of the first operations
-abbrev pub AreFor : ImageView → List ℤ → List Instruction → Type 0
-AreFor image cells instructions =
-    (place : ℕ) (instruction : Instruction) (op : ImageOp) → slice_get instructions place ≡ Some instruction → slice_get image.ops place ≡ Some op
-    → IsFor image cells op instruction
+-- Instructions are for the operations, in their order.
+pub record AreFor (image : ImageView) (cells : List ℤ) (instructions : List Instruction) : Type 0 where
+  pub count : length instructions ≡ length image.ops
+  pub each : (place : ℕ) (instruction : Instruction) (op : ImageOp) → slice_get instructions place ≡ Some instruction → slice_get image.ops place ≡ Some op
+      → IsFor image cells op instruction
+
+-- Guards are the functions of those of the operations, in their order.
+pub record AreGuardsOf (image : ImageView) (functions : Functions) (guards : List Ref) : Type 0 where
+  pub count : length guards ≡ length image.ops
+  pub each : (place : ℕ) (guard : Ref) (op : ImageOp) → slice_get guards place ≡ Some guard → slice_get image.ops place ≡ Some op
+      → slice_get functions.refs.items op.guard ≡ Some guard
 
 -- the cells begin with those of signals and memories
 abbrev pub BeginWith : ImageView → List ℤ → Type 0
@@ -75,5 +82,8 @@ BeginWith image cells = Grows (replicate (length image.signals) (pos 0) ++ inits
 -- The instructions of an image.
 pub record Lowers (image : ImageView) (lowered : Lowered) : Type 0 where
   pub opening : BeginWith image lowered.cells.items
-  pub count : length lowered.instructions.items ≡ length image.ops
-  pub each : AreFor image lowered.cells.items lowered.instructions.items
+  pub functions : AreFunctions image lowered.functions
+  pub instructions : AreFor image lowered.cells.items (instructions_in lowered.code)
+  pub guards : AreGuardsOf image lowered.functions (guards_in lowered.code)
+  pub asks : scope_in lowered.functions.store.nodes lowered.code ≡ scope_of lowered.functions.store.nodes image.conditions (length image.signals)
+  pub code : IsCode lowered.functions.store.nodes image.inputs (length lowered.cells.items) lowered.code

@@ -1,11 +1,11 @@
 -- Why a run ends.
-use Rattle.sig_exec.specs.Prelude.{Span, ImageCause}
-use Rattle.sig_exec.specs.declared.fault.Fault.{Fault}
-use Rattle.sig_exec.specs.declared.fault.Fault.TheVariants.{Exhausted, Overflow, ZeroDivisor}
-use Rattle.sig_file.specs.declared.run.ImageCause.TheVariants as causes
+use Rattle.sig_exec.specs.Prelude.{Cause, Span, ImageCause}
+use Rattle.sig_plan.specs.declared.ended.Cause.TheVariants as plan
+use Rattle.sig_file.specs.declared.run.ImageCause.TheVariants as image
 
--- the cause that a fault of an operation at this place is
-abbrev pub cause_of : Span → Fault → ImageCause
-cause_of at (Exhausted x) = causes.Exhausted x
-cause_of at Overflow = causes.Overflow at
-cause_of at ZeroDivisor = causes.ZeroDivisor at
+-- the cause of an instruction without a value, as that of an operation at this place
+abbrev pub cause_of : Span → Cause → ImageCause
+cause_of at (plan.Exhausted x) = image.Exhausted x
+cause_of at (plan.Overflow e) = image.Overflow at
+cause_of at (plan.ZeroDivisor e) = image.ZeroDivisor at
+cause_of at plan.Limit = image.Limit

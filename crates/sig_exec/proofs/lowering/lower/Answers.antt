@@ -1,21 +1,27 @@
-use Rattle.sig_exec.proofs.{◌≡◌, ◌+◌, ◌∷◌, [], ◌∙◌, ap, sym, subst, length, length-append, List, ℕ, Some, slice_get, AreFor, Instruction, begin_room, grow_begin, one_more}
+use Rattle.sig_exec.proofs.{◌≤◌, ◌∙◌, sym, subst, ℕ, List, length, SigId, are_below, are_guards, lowers_by, AreGuards, AreBelow, IsCode, AreWithin}
+use Rattle.sig_cells.specs.Guards.{scope_of}
 use Rattle.sig_exec.proofs.lowering.lower.Goals as goal
 
-pub instruction_of-requires-clause-room : goal.instruction_of-requires-clause-room
-instruction_of-requires-clause-room c = begin_room c.args.image.now c.loop-place.cells.items c.loop-place.invariant.opening
-
-pub loop-place-preserved : goal.loop-place-preserved
-loop-place-preserved c =
+pub new-requires-2-clause-guards : goal.new-requires-2-clause-guards
+new-requires-2-clause-guards c =
     let image = c.args.image.now in
-    let old = c.loop-place.cells.items in
-    let new = c.instruction_of.new.cells.items in
-    let instructions = c.loop-place.instructions.items in
-    let instruction : Instruction = c.in_ok-instruction_of.field-0 in
-    let op = c.op_at-op.result.now in
-    let at = subst (λ (n : ℕ). slice_get image.ops n ≡ Some op) (sym c.loop-place.invariant.count) c.op_at-op.ensures.is in
-    record {
-      count = ap (λ (l : List Instruction). length l) c.in_ok-push.ensures.items ∙ length-append instructions (instruction ∷ []) ∙ ap (λ (n : ℕ). n + 1) c.loop-place.invariant.count;
-      each = subst (AreFor image new) (sym c.in_ok-push.ensures.items)
-          (one_more image old new instructions instruction op c.loop-place.invariant.each c.in_ok-instruction_of.ensures.grows at c.in_ok-instruction_of.ensures.is);
-      opening = grow_begin image old new c.loop-place.invariant.opening c.in_ok-instruction_of.ensures.grows;
-    }
+    let nodes = c.in_ok-functions.functions.store.nodes in
+    subst (AreGuards (scope_of nodes c.conditions_of.result.now c.signal_count.result)) (sym c.as_slice.ensures.value)
+    (subst (λ (n : ℕ). AreGuards (scope_of nodes c.conditions_of.result.now n) c.in_ok-guards.guards.items) (sym c.signal_count.ensures)
+    (subst (λ (l : List SigId). AreGuards (scope_of nodes l (length image.signals)) c.in_ok-guards.guards.items) (sym c.conditions_of.ensures)
+    (are_guards image c.images_are_right.ensures c.in_ok-functions.functions c.in_ok-functions.ensures c.in_ok-guards.guards.items c.in_ok-guards.ensures)))
+
+pub new-requires-2-clause-below : goal.new-requires-2-clause-below
+new-requires-2-clause-below c =
+    let image = c.args.image.now in
+    subst (λ (n : ℕ). AreBelow n c.conditions_of.result.now) (sym c.signal_count.ensures)
+    (subst (λ (l : List SigId). AreBelow (length image.signals) l) (sym c.conditions_of.ensures) (are_below image c.images_are_right.ensures))
+
+pub returns : goal.returns
+returns c =
+    let image = c.args.image.now in
+    let made = c.in_ok-code.ensures in
+    lowers_by image c.images_are_right.ensures (record { functions = c.in_ok-functions.functions; code = c.in_ok-code.code; cells = c.instructions_of.new.cells }) c.in_ok-cells.cells.items c.in_ok-cells.ensures
+    c.in_ok-instructions.ensures.grows c.in_ok-functions.ensures c.in_ok-instructions.instructions.items c.in_ok-instructions.ensures.each c.in_ok-guards.guards.items c.in_ok-guards.ensures
+    (made.signals ∙ c.signal_count.ensures) (made.conditions ∙ c.conditions_of.ensures) made.instructions (made.guards ∙ c.as_slice.ensures.value)
+    (subst (λ (n : ℕ). (inputs cells : ℕ) → n ≤ cells → AreWithin inputs cells c.in_ok-instructions.instructions.items → IsCode c.in_ok-functions.functions.store.nodes inputs cells c.in_ok-code.code) c.signal_count.ensures made.code)

@@ -1,5 +1,5 @@
 -- What an instruction keeps of cells, stamps and counts.
-use Rattle.sig_exec.proofs.Common.{if◌then◌else◌, ◌≡◌, ◌<◌, ◌≤◌, ◌+◌, inl, inr, ℕ, zero, suc, ℤ, Bool, true, false, List, [], ◌∷◌, length, set, take, drop, None, Some, refl, sym, ap, ◌∙◌, arith, eq-eqb, slice_index_or, ◌==◌, take-set-lt, drop-set-lt, drop-set-add, take-set-le, get_or-take, get_or_past, length-take-le, cases_lt, Seen, seen_at, ImageView, cell, HasCells, IsKept, left_of, registers_of, seen_in, shown, shown_all, taken_after, Instruction, Work, Next, Machine}
+use Rattle.sig_exec.proofs.Common.{if◌then◌else◌, ◌≡◌, ◌<◌, ◌≤◌, ◌+◌, inl, inr, ℕ, zero, suc, ℤ, Bool, true, false, List, [], ◌∷◌, length, set, take, drop, None, Some, refl, sym, ap, ◌∙◌, arith, eq-eqb, slice_index_or, ◌==◌, take-set-lt, drop-set-lt, drop-set-add, take-set-le, get_or-take, get_or_past, length-take-le, cases_lt, Seen, seen_at, ImageView, cell, Cells, HaveSignals, left_by, left_of, registers_on, seen_on, shown, shown_all, taken_after, Instruction, Work, Next}
 use Rattle.sig_exec.proofs.OperationOutcomes.{behind_first, value_in}
 
 -- ---- what is shown
@@ -29,30 +29,30 @@ shown_length instant (t ∷ stamps) [] (suc n) a b = absurd (omega (arith, b))
 shown_length instant (t ∷ stamps) (w ∷ cells) (suc n) a b = let h = shown_length instant stamps cells n (omega (arith, a)) (omega (arith, b)) in omega (arith, h)
 
 -- what a signal is
-pub registers_at : (image : ImageView) (m : Machine) → HasCells image m → (x : ℕ) → x < length image.signals → seen_at (registers_of image m) x ≡ seen_in m x
-registers_at image m has x below =
+pub registers_at : (image : ImageView) (instant : ℕ) (m : Cells) → HaveSignals image m → (x : ℕ) → x < length image.signals → seen_at (registers_on image instant m) x ≡ seen_on instant m x
+registers_at image instant m has x below =
     let a = has.stamps in let b = has.cells in
-    get_or-take (length image.signals) (shown_all m.instant m.stamps.items m.cells.items) x None below
-    ∙ shown_at m.instant m.stamps.items m.cells.items x (omega (arith, a, below)) (omega (arith, b, below))
+    get_or-take (length image.signals) (shown_all instant m.stamps m.values) x None below
+    ∙ shown_at instant m.stamps m.values x (omega (arith, a, below)) (omega (arith, b, below))
 
-pub registers_length : (image : ImageView) (m : Machine) → HasCells image m → length (registers_of image m) ≡ length image.signals
-registers_length image m has =
-    length-take-le (length image.signals) (shown_all m.instant m.stamps.items m.cells.items) (shown_length m.instant m.stamps.items m.cells.items (length image.signals) has.stamps has.cells)
+pub registers_length : (image : ImageView) (instant : ℕ) (m : Cells) → HaveSignals image m → length (registers_on image instant m) ≡ length image.signals
+registers_length image instant m has =
+    length-take-le (length image.signals) (shown_all instant m.stamps m.values) (shown_length instant m.stamps m.values (length image.signals) has.stamps has.cells)
 
 shown_value : (b : Bool) (c v : ℤ) → (if b then Some c else None) ≡ Some v → c ≡ v
 shown_value true c v e = cc
 shown_value false c v e = absurd (let f : None ≡ Some v = e in cc)
 
 -- a signal that was written has the value of its cell
-pub cell_of_seen : (image : ImageView) (m : Machine) → HasCells image m → (x : ℕ) → ((v : ℤ) × (seen_at (registers_of image m) x ≡ Some v))
-    → (x < length image.signals) × (cell m.cells.items x ≡ value_in (seen_at (registers_of image m) x))
-cell_of_seen image m has x (v, is) = elim (cases_lt x (length image.signals)) [
+pub cell_of_seen : (image : ImageView) (instant : ℕ) (m : Cells) → HaveSignals image m → (x : ℕ) → ((v : ℤ) × (seen_at (registers_on image instant m) x ≡ Some v))
+    → (x < length image.signals) × (cell m.values x ≡ value_in (seen_at (registers_on image instant m) x))
+cell_of_seen image instant m has x (v, is) = elim (cases_lt x (length image.signals)) [
   | inl below ↦
-      let e = shown_value (slice_index_or m.stamps.items x 0 == m.instant) (cell m.cells.items x) v (sym (registers_at image m has x below) ∙ is) in
+      let e = shown_value (slice_index_or m.stamps x 0 == instant) (cell m.values x) v (sym (registers_at image instant m has x below) ∙ is) in
       (below, e ∙ sym (ap value_in is))
   | inr past ↦
-      let count = registers_length image m has in
-      let none : seen_at (registers_of image m) x ≡ None = get_or_past (registers_of image m) x None (omega (arith, past, count)) in
+      let count = registers_length image instant m has in
+      let none : seen_at (registers_on image instant m) x ≡ None = get_or_past (registers_on image instant m) x None (omega (arith, past, count)) in
       absurd (let f : None ≡ Some v = sym none ∙ is in cc)
 ]
 
@@ -87,51 +87,44 @@ left_length [] (flow ∷ flows) same = absurd (omega (arith, same))
 left_length (t ∷ taken) [] same = absurd (omega (arith, same))
 left_length (t ∷ taken) (flow ∷ flows) same = let e = left_length taken flows (omega (arith, same)) in omega (arith, e)
 
--- ---- the state behind an instruction
+-- ---- the cells that an instruction leaves
 
-module _ (image : ImageView) (flows : List (List ℤ)) (instruction : Instruction) (v : ℤ) (old new : Machine) (kept : IsKept instruction v old new) where
+module _ (image : ImageView) (flows : List (List ℤ)) (instruction : Instruction) (v : ℤ) (instant : ℕ) (old : Cells) where
   abbrev at : ℕ
   at = instruction.target
 
   abbrev n : ℕ
   n = length image.signals
 
-  shows : at < length old.stamps.items → at < length old.cells.items → registers_of image new ≡ take n (set (shown_all old.instant old.stamps.items old.cells.items) at (Some v))
-  shows stamps cells =
-      ap (λ (k : ℕ). take n (shown_all k new.stamps.items new.cells.items)) kept.instant
-      ∙ ap (λ (l : List ℕ). take n (shown_all old.instant l new.cells.items)) kept.stamps
-      ∙ ap (λ (l : List ℤ). take n (shown_all old.instant (set old.stamps.items at old.instant) l)) kept.cells
-      ∙ ap (λ (l : List Seen). take n l) (shown_set old.instant old.stamps.items old.cells.items at v stamps cells)
+  abbrev new : Cells
+  new = left_by instruction v instant old
 
-  abbrev memories : Machine → List ℤ
-  memories m = take (length image.memories) (drop n m.cells.items)
+  shows : at < length old.stamps → at < length old.values → registers_on image instant new ≡ take n (set (shown_all instant old.stamps old.values) at (Some v))
+  shows stamps cells = ap (λ (l : List Seen). take n l) (shown_set instant old.stamps old.values at v stamps cells)
 
-  module _ (stamps : at < length old.stamps.items) (cells : at < length old.cells.items) where
-    pub signal_registers : (x : ℕ) → at ≡ x → x < n → registers_of image new ≡ set (registers_of image old) x (Some v)
+  abbrev memories : Cells → List ℤ
+  memories m = take (length image.memories) (drop n m.values)
+
+  module _ (stamps : at < length old.stamps) (cells : at < length old.values) where
+    pub signal_registers : (x : ℕ) → at ≡ x → x < n → registers_on image instant new ≡ set (registers_on image instant old) x (Some v)
     signal_registers x is below =
-        shows stamps cells ∙ take-set-lt n (shown_all old.instant old.stamps.items old.cells.items) at (Some v) (omega (arith, is, below))
-        ∙ ap (λ (k : ℕ). set (registers_of image old) k (Some v)) is
+        shows stamps cells ∙ take-set-lt n (shown_all instant old.stamps old.values) at (Some v) (omega (arith, is, below))
+        ∙ ap (λ (k : ℕ). set (registers_on image instant old) k (Some v)) is
 
     pub signal_memories : (x : ℕ) → at ≡ x → x < n → memories new ≡ memories old
-    signal_memories x is below =
-        ap (λ (l : List ℤ). take (length image.memories) (drop n l)) kept.cells
-        ∙ ap (take (length image.memories)) (drop-set-lt n old.cells.items at v (omega (arith, is, below)))
+    signal_memories x is below = ap (take (length image.memories)) (drop-set-lt n old.values at v (omega (arith, is, below)))
 
-    pub memory_registers : (m : ℕ) → at ≡ n + m → registers_of image new ≡ registers_of image old
-    memory_registers m is = shows stamps cells ∙ take-set-le n (shown_all old.instant old.stamps.items old.cells.items) at (Some v) (omega (arith, is))
+    pub memory_registers : (m : ℕ) → at ≡ n + m → registers_on image instant new ≡ registers_on image instant old
+    memory_registers m is = shows stamps cells ∙ take-set-le n (shown_all instant old.stamps old.values) at (Some v) (omega (arith, is))
 
     pub memory_memories : (m : ℕ) → at ≡ n + m → m < length image.memories → memories new ≡ set (memories old) m v
     memory_memories m is below =
-        ap (λ (l : List ℤ). take (length image.memories) (drop n l)) kept.cells
-        ∙ ap (λ (k : ℕ). take (length image.memories) (drop n (set old.cells.items k v))) is
-        ∙ ap (take (length image.memories)) (drop-set-add n old.cells.items m v)
-        ∙ take-set-lt (length image.memories) (drop n old.cells.items) m v below
+        ap (λ (k : ℕ). take (length image.memories) (drop n (set old.values k v))) is
+        ∙ ap (take (length image.memories)) (drop-set-add n old.values m v)
+        ∙ take-set-lt (length image.memories) (drop n old.values) m v below
 
-  pub flows_same : taken_after instruction.work old.taken.items ≡ old.taken.items → left_of new.taken.items flows ≡ left_of old.taken.items flows
-  flows_same same = ap (λ (l : List ℕ). left_of l flows) (kept.taken ∙ same)
+  pub flows_same : taken_after instruction.work old.taken ≡ old.taken → left_of new.taken flows ≡ left_of old.taken flows
+  flows_same same = ap (λ (l : List ℕ). left_of l flows) same
 
-  pub flows_read : (x : ℕ) → instruction.work ≡ Next x
-      → left_of new.taken.items flows ≡ set (left_of old.taken.items flows) x (behind_first (slice_index_or (left_of old.taken.items flows) x []))
-  flows_read x is =
-      ap (λ (l : List ℕ). left_of l flows) (kept.taken ∙ ap (λ (w : Work). taken_after w old.taken.items) is)
-      ∙ left_set old.taken.items flows x
+  pub flows_read : (x : ℕ) → instruction.work ≡ Next x → left_of new.taken flows ≡ set (left_of old.taken flows) x (behind_first (slice_index_or (left_of old.taken flows) x []))
+  flows_read x is = ap (λ (w : Work). left_of (taken_after w old.taken) flows) is ∙ left_set old.taken flows x
