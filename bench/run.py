@@ -11,6 +11,10 @@ each) and the 12 stages (20,000 instants). Then a play of 300,000 events on the 
 actor in turn over links of 16 items: prints the time of an event, which is that of the play without that of one with no events,
 by their number.
 
+Part `exec`: the same programs as in `run`, as images: `SIGC exec` and `SIGC run --workers 0` in turn on the same flows. Compares the
+texts, and prints the least processor times of five runs each and their ratio; and the least wall times of `SIGC build`, and of an
+`exec` of one instant, from its begin to its end.
+
 Part `workers`: the 12 stages and a program of four clusters of 64 operations each with 0, 1, 2 and 4 workers. Compares the
 texts, and prints the least wall time of five runs, its ratio to that of 0 workers, and the processor time.
 
@@ -182,10 +186,10 @@ PLAYS = {
 }
 
 
-def measured(words, folder, text):
+def measured(words, folder, text, rounds=ROUNDS):
     """The least processor time and the least wall time of several runs in seconds, and the peak memory in MB."""
     times, walls, peak = [], [], 0
-    for _ in range(ROUNDS):
+    for _ in range(rounds):
         with open(os.path.join(folder, text), "wb") as out:
             begun = time.monotonic()
             child = subprocess.Popen(words, cwd=folder, stdout=out, stderr=subprocess.DEVNULL)
@@ -237,6 +241,30 @@ def beside_c(sigc, folder):
         print(
             f"{name}: sigc {own:.3f} s ({1e9 * own / instants:.0f} ns an instant, {peak:.0f} MB), "
             f"C {plain:.3f} s ({plain_peak:.0f} MB), ratio {own / plain:.2f}"
+        )
+
+
+def put_first(folder, made):
+    """A flow file with the first value of each flow."""
+    with open(os.path.join(folder, "first"), "w", encoding="ascii") as file:
+        file.writelines(f"{name} {values[0]}\n" for name, values in made.items())
+
+
+def beside_run(sigc, folder):
+    for name, (program, flows) in PROGRAMS.items():
+        made = flows(random.Random(1))
+        put_files(folder, program(), made)
+        put_first(folder, made)
+        _, build, _ = measured([sigc, "build", "program.sig"], folder, "image")
+        _, first, _ = measured([sigc, "exec", "image", "first"], folder, "text")
+        runs, execs = [], []
+        for _ in range(ROUNDS):
+            runs.append(measured(run_words(sigc, 0), folder, "own", 1)[0])
+            execs.append(measured([sigc, "exec", "image", "flows"], folder, "text", 1)[0])
+        assert read(folder, "own") == read(folder, "text"), f"{name}: the texts differ"
+        print(
+            f"{name}: exec {min(execs):.3f} s, run {min(runs):.3f} s, ratio {min(execs) / min(runs):.2f}; "
+            f"build {1e3 * build:.1f} ms, exec of one instant {1e3 * first:.1f} ms"
         )
 
 
@@ -370,7 +398,7 @@ def paying(sigc, folder):
                     print(f"    {lengths[-1]} {kind} in each of {count} clusters with {workers} workers, by capacity: {row}")
 
 
-PARTS = {"run": beside_c, "play": played_beside_c, "workers": with_workers, "items": items, "crowd": crowd, "pay": paying}
+PARTS = {"run": beside_c, "exec": beside_run, "play": played_beside_c, "workers": with_workers, "items": items, "crowd": crowd, "pay": paying}
 
 
 def main():
