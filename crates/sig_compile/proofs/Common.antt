@@ -24,13 +24,15 @@ pub use Rattle.sig_back.specs.Budgets.{MeetsUnknownBound}
 pub use Rattle.sig_back.specs.Faults.{IsFaultOf}
 pub use Rattle.sig_back.specs.Shown.{fault_line}
 pub use Rattle.sig_back.proofs.Common.{HasWritten, IsPlainFormatter, IsUnknownCount, Keeps, NODES, flat_map-append, has_written_append, has_written_of_eq, share_of, shown, take_more, told_as, writes_in_calls_nil}
+pub use Rattle.sig_front.specs.Kernels.{IsNoKernelText}
 pub use Rattle.sig_front.specs.Shown.{front_line}
+pub use Rattle.sig_front.specs.Texts.{IsNoText}
 pub use Rattle.sig_front.specs.declared.answer.FrontAnswer.{FrontAnswer}
 pub use Rattle.sig_front.specs.declared.answer.FrontAnswer.TheVariants.{TooManySignals}
 pub use Rattle.sig_front.proofs.Common.{IfOk-weaker, IsKernelText, IsText, ProcessModel, SIGNALS, err_from_is_err_and}
 pub use Rattle.sig_front.proofs.OneKernel.{kernel_once, kernel_or_refusal, no_kernel_once}
 pub use Rattle.sig_front.proofs.OneText.{refusal_once, tree_once, tree_or_refusal}
-pub use Rattle.sig_outcome.specs.Outcomes.{WritesDue}
+pub use Rattle.sig_outcome.specs.Outcomes.{Holds, WritesDue, long_program}
 pub use Rattle.sig_outcome.specs.Tasks.{SaysLine}
 pub use Rattle.sig_outcome.specs.declared.refusal.Refusal.{Refusal}
 pub use Rattle.sig_outcome.specs.declared.refusal.Refusal.TheVariants.{Budget, Data, LongFile, LongImage, LongProgram, Missing, OutOfMemory, Program, ReadFault, TooManyItems}
@@ -40,7 +42,7 @@ pub use Rattle.sig_outcome.proofs.PerformedCalls.{performs_outcome, performs_ref
 pub use Rattle.sig_outcome.proofs.Refused.{about_bytes, budget_of, no_eight, of_more, refused_program, told}
 pub use Rattle.sig_outcome.proofs.Stages.{behind_program, one_at_program}
 pub use Rattle.sig_compile.specs.Acceptance.{AreRefused, Becomes, HasKernel, HasOwnKernel, HasSignalNames, IsAcceptedAs, IsAcceptedProgram, IsRefusedKernel, IsRefusedPace, IsRefusedProgram, IsRefusedText, IsUnpaced, SaysNameTaken, SaysTooManySignals, taken_line}
-pub use Rattle.sig_compile.specs.Compiling.{CompileComesTo, HoldsBeyondBound, IsAboutPlan, IsBudget, IsCompileStatus, IsDueOf, IsPlanLine, IsVerdictText, LacksNodes, compiling}
+pub use Rattle.sig_compile.specs.Compiling.{AtPlan, CompileComesTo, HoldsBeyondBound, IsAboutPlan, IsBudget, IsCompileStatus, IsDueOf, IsPlanLine, IsVerdictText, LacksNodes, compiling}
 pub use Rattle.sig_compile.specs.Complete.{CanCompile, CanPrint}
 pub use Rattle.sig_compile.specs.Printing.{IsAboutText, IsFrontLine, IsPrintStatus, PrintComesTo, RefusesText, printing}
 pub use Rattle.sig_compile.specs.declared.product.Product.{Product}

@@ -7,6 +7,7 @@ pub mod OneCompilation
 pub mod Rooms
 mod Products
 pub mod Complete
+pub mod SomeOutcome
 pub use Common.*
 pub use Complete.*
 pub use OneCompilation.*
@@ -14,4 +15,5 @@ pub use OwnNames.*
 pub use Pacings.*
 pub use Rooms.*
 pub use ShownNames.*
+pub use SomeOutcome.*
 pub use Verdicts.*

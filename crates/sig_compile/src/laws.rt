@@ -9,7 +9,7 @@ ghost use Rattle.sig_compile.specs.Printing.{PrintComesTo};
 ghost use Rattle.sig_compile.specs.declared.product.Product.{Product};
 
 use sig_deciding::kernels_are_accepted_or_refused;
-use sig_front::kernels_of_texts;
+use sig_front::{kernels_of_texts, texts_have_a_verdict};
 use sig_pace::{kernels_are_paced_or_refused, paced_kernels_are_valid};
 
 /// A law: with paces and without, no program is both accepted and refused, and a refused one has one line.
@@ -29,6 +29,26 @@ pub fn kernels_have_a_verdict()
     kernels_are_paced_or_refused();
     paced_kernels_are_valid();
     kernels_are_accepted_or_refused();
+}
+
+/// A law: any bytes are, with paces and without, an accepted program, or a refused one with its line.
+pub fn programs_have_a_verdict()
+    ensures { (pace : Bool) (bytes : List ℕ) → IsAcceptedProgram pace bytes ⊎ ((line : List ℕ) × IsRefusedProgram pace bytes line) }
+{
+    texts_have_a_verdict();
+    kernels_of_texts();
+    kernels_have_a_verdict();
+}
+
+/// A law: whatever its file holds and whether it is there, the compiling of a program comes to an outcome, and so
+/// does its printing.
+pub fn programs_have_an_outcome()
+    ensures compiled { (pace : Bool) (held : Contents) (program : List ℕ) (product : Product)
+        → (o : Outcome) × CompileComesTo (IsDueOf product) pace held program o }
+    ensures printed { (held : Contents) (program : List ℕ) → (o : Outcome) × PrintComesTo held program o }
+{
+    texts_have_a_verdict();
+    programs_have_a_verdict();
 }
 
 /// A law: a program that is accepted, with paces or without, is compiled. Whatever its compiling comes to has

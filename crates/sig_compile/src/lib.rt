@@ -16,7 +16,10 @@ mod taken;
 
 pub use check::compile_command;
 pub use compile::plan_of;
-pub use laws::{good_programs_compile, good_texts_print, kernels_have_a_verdict, one_verdict};
+pub use laws::{
+    good_programs_compile, good_texts_print, kernels_have_a_verdict, one_verdict,
+    programs_have_a_verdict, programs_have_an_outcome,
+};
 pub use load::load_plan;
 pub use print::print_command;
 pub use product::Product;

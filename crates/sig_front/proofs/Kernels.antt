@@ -6,7 +6,7 @@ use Rattle.sig_front.proofs.OneFlat.{flat_once}
 module _ (trees : (text : List ℕ) (program : List ProcessModel) → IsText text program → IsTree program)
     (bounded : (text : List ℕ) (program : List ProcessModel) → IsText text program → IsBounded program)
     (made : (program : List ProcessModel) (flat : FlatBody) → IsTree program → IsBounded program → IsWellFormed program → IsFlatBody program flat → IsWellMade flat) where
-  well_made : (text : List ℕ) (flat : FlatBody) → IsFlatText text flat → IsWellMade flat
+  pub well_made : (text : List ℕ) (flat : FlatBody) → IsFlatText text flat → IsWellMade flat
   well_made text flat says =
       made says.tree flat (trees text says.tree says.good.reads) (bounded text says.tree says.good.reads) says.good.formed says.expands
 

@@ -18,6 +18,9 @@ module _ (trees : (text : List ℕ) (program : List ProcessModel) → IsText tex
 module _ (differ : (text : List ℕ) (program : List ProcessModel) (flat : FlatBody) → IsText text program → IsWellFormed program → IsFlatBody program flat
     → length flat.signals < 10 ^ 64 → IsDistinct bytes_eq (map (λ signal. signal.name) flat.signals)) where
   -- a flat body of a text has signals of different names
+  pub names_differ : (text : List ℕ) (flat : FlatBody) → IsFlatText text flat → IsDistinct bytes_eq (map (λ signal. signal.name) flat.signals)
+  names_differ text flat is = differ text is.tree flat is.good.reads is.good.formed is.expands (let few : length flat.signals ≤ 512 = is.few in omega (arith, few))
+
   pub names : (text : List ℕ) (result : Result Flat FrontAnswer) → IfOk result (λ flat. IsFlatText text (flat_body_of flat)) → IfOk result (λ flat. IsDistinct bytes_eq (map (λ signal. signal.name) flat.signals.items))
-  names text (Ok flat) is = differ text is.tree (flat_body_of flat) is.good.reads is.good.formed is.expands (let few : length flat.signals.items ≤ 512 = is.few in omega (arith, few))
+  names text (Ok flat) is = names_differ text (flat_body_of flat) is
   names text (Err answer) is = tt

@@ -1,5 +1,6 @@
 -- What the definitions and the clauses of this crate cite of std and of the crates below, passed on from one place.
-pub use Rattle.std.specs.Prelude.{IfErr, IfOk, IsErrAnd, List, MatchResult, bytes_eq, codes, decimal, length, map, ℕ, ◌++◌, ◌<◌, ◌^◌, ◌≡◌, ◌≤◌, ◌⊎◌}
+pub use Rattle.sig_base.specs.Traces.{IsLongest, IsPrefixOf, reduce}
+pub use Rattle.std.specs.Prelude.{ℤ, IfErr, IfOk, IsErrAnd, List, MatchResult, bytes_eq, codes, decimal, length, map, ℕ, ◌++◌, ◌<◌, ◌^◌, ◌≡◌, ◌≤◌, ◌⊎◌}
 pub use Rattle.sig_lex.specs.Shown.{fault_line}
 pub use Rattle.sig_lex.specs.Tokens.{IsFirstFault}
 pub use Rattle.sig_lex.specs.declared.answer.LexAnswer.{LexAnswer}

@@ -1,9 +1,9 @@
 //! Laws of texts.
 
-ghost use Rattle.std.specs.Prelude.{◌≡◌, ◌<◌, ◌≤◌, ◌^◌};
-ghost use Rattle.sig_front.specs.Prelude.{ℕ, List, length, AllByRecursion, PROGRAM_BYTES, IsSignalName, IsText, IsWithin, ProcessModel, FlatBody, IsValid, Kernel, AtPlacesOfKernel};
+ghost use Rattle.std.specs.Prelude.{◌≡◌, ◌⊎◌, ◌<◌, ◌≤◌, ◌^◌};
+ghost use Rattle.sig_front.specs.Prelude.{ℕ, ℤ, List, bytes_eq, length, map, IsDistinct, AllByRecursion, IsLongest, IsPrefixOf, Trace, reduce, PROGRAM_BYTES, IsSignalName, IsText, IsWithin, ProcessModel, FlatBody, IsKernelTrace, IsValid, Kernel, AtPlacesOfKernel, restricted};
 ghost use Rattle.sig_front.specs.Flats.{IsFlatText, IsNoFlatText};
-ghost use Rattle.sig_front.specs.Kernels.{HasTracesOf, IsKernelText, IsNoKernelText};
+ghost use Rattle.sig_front.specs.Kernels.{HasTracesOf, IsKernelText, IsNoKernelText, IsProgramTrace};
 ghost use Rattle.sig_front.specs.Texts.{IsNoText};
 ghost use Rattle.sig_front.specs.declared.answer.FrontAnswer.{FrontAnswer};
 
@@ -13,8 +13,10 @@ use sig_call::{
 };
 use sig_flat::{
     kernel_traces_are_process_traces, kernels_are_valid, kernels_have_few_equations,
-    kernels_keep_places, kernels_name_signals,
+    kernels_keep_places, kernels_name_signals, longest_traces_are_longest_process_traces,
+    restricted_traces_keep_silence,
 };
+use sig_kernel::beginnings_are_traces;
 
 /// A law: a text is that of one program or has one refusal, at most, and not both.
 pub fn one_text()
@@ -36,6 +38,18 @@ pub fn one_kernel_text()
     ensures refusal { (text : List ℕ) (a b : FrontAnswer) → IsNoKernelText text a → IsNoKernelText text b → a ≡ b }
     ensures apart { (text : List ℕ) (kernel : Kernel) (answer : FrontAnswer) → IsKernelText text kernel → IsNoKernelText text answer → ⊥ }
 {}
+
+/// A law: every text is that of a program or has a refusal, and so with flat bodies that are kept and with
+/// kernels that are kept. The signals of a flat body that is kept have names that differ.
+pub fn texts_have_a_verdict()
+    ensures tree { (text : List ℕ) → ((tree : List ProcessModel) × IsText text tree) ⊎ ((answer : FrontAnswer) × IsNoText text answer) }
+    ensures flat { (text : List ℕ) → ((flat : FlatBody) × IsFlatText text flat) ⊎ ((answer : FrontAnswer) × IsNoFlatText text answer) }
+    ensures kernel { (text : List ℕ) → ((kernel : Kernel) × IsKernelText text kernel) ⊎ ((answer : FrontAnswer) × IsNoKernelText text answer) }
+    ensures names { (text : List ℕ) (flat : FlatBody) → IsFlatText text flat → IsDistinct bytes_eq (map (λ signal. signal.name) flat.signals) }
+{
+    trees_of_texts();
+    names_of_flat_bodies();
+}
 
 /// A law: the kernel of a text has the traces of the text's program, and the places of its signals and
 /// equations have lines and columns that are at most one more than the bytes of the text. Where the text
@@ -61,4 +75,22 @@ pub fn kernels_of_texts()
     kernels_name_signals();
     kernels_keep_places();
     kernel_traces_are_process_traces();
+}
+
+/// A law: the longest trace of the kernel of a text is, without the compiler's signals, the longest trace of
+/// the program; what begins a trace of the program is one; and the compiler's signals are absent at silent instants.
+pub fn traces_of_programs()
+    ensures longest { (text : List ℕ) (kernel : Kernel) → IsKernelText text kernel → (flows : List (List ℤ)) (limit : ℕ) (trace : Trace)
+        → length flows ≤ kernel.declared → IsLongest (IsKernelTrace kernel) flows limit trace
+        → IsLongest (IsProgramTrace text) flows limit (restricted kernel.declared trace) }
+    ensures front { (text : List ℕ) (front trace : Trace) → IsPrefixOf front trace → IsProgramTrace text trace → IsProgramTrace text front }
+    ensures silence { (text : List ℕ) (kernel : Kernel) → IsKernelText text kernel → (trace : Trace) → IsKernelTrace kernel trace
+        → reduce (restricted kernel.declared trace) ≡ restricted kernel.declared (reduce trace) }
+{
+    trees_of_texts();
+    flat_bodies_are_well_made();
+    beginnings_are_traces();
+    kernel_traces_are_process_traces();
+    longest_traces_are_longest_process_traces();
+    restricted_traces_keep_silence();
 }

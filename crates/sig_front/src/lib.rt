@@ -12,5 +12,8 @@ mod text;
 pub use answer::FrontAnswer;
 pub use body::flat;
 pub use kernel::front;
-pub use laws::{kernels_of_texts, one_flat_text, one_kernel_text, one_text};
+pub use laws::{
+    kernels_of_texts, one_flat_text, one_kernel_text, one_text, texts_have_a_verdict,
+    traces_of_programs,
+};
 pub use text::tree;

@@ -11,6 +11,8 @@ pub mod RowLemmas
 pub mod ValueKinds
 pub mod VerdictLemmas
 pub mod ZipLemmas
+pub mod DecidedSteps
+pub mod SomeVerdict
 pub use Common.*
 pub use AgreeAnswers.*
 pub use BreakLemmas.*
@@ -21,6 +23,7 @@ pub use HeaderNames.*
 pub use KindLemmas.*
 pub use ReadLemmas.*
 pub use RowLemmas.*
+pub use SomeVerdict.*
 pub use VerdictLemmas.*
 pub use ZipLemmas.*
 pub use Rattle.sig_judge.proofs.HeaderFaults.{no_header}

@@ -8,6 +8,7 @@ mod body;
 mod equation;
 mod function;
 mod header;
+mod laws;
 mod node;
 mod operator;
 mod presence;
@@ -18,6 +19,7 @@ mod trace_answer;
 mod verdict;
 
 pub use answer::JudgeAnswer;
+pub use laws::traces_have_a_verdict;
 pub use read::read_trace;
 pub use trace::{Row, Seen, Trace};
 pub use trace_answer::TraceAnswer;

@@ -4,7 +4,9 @@
 #![tactic(auto)]
 
 mod command;
+mod laws;
 mod load;
 mod verdict;
 
 pub use command::judge_command;
+pub use laws::judges_have_one_outcome;

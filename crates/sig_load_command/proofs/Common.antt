@@ -7,6 +7,7 @@ pub use Rattle.sig_load.specs.Tally.{Tallied, Tally}
 pub use Rattle.sig_compile.specs.Compiling.{IsBeyondBound}
 pub use Rattle.sig_compile.proofs.Common.{IfOk-weaker, IsOfProgram, LacksNodes, OutOfMemory}
 pub use Rattle.sig_compile.proofs.Rooms.{plan_line}
+pub use Rattle.sig_compile.proofs.SomeOutcome.{HasVerdict}
 pub use Rattle.sig_compile.proofs.Verdicts.{program_apart, program_once}
 pub use Rattle.sig_runs.specs.declared.load.Loaded.{Loaded}
 pub use Rattle.sig_runs.proofs.Common.{AreFlows, AreFlowsFor, AreRefused, AtLinks, Budget, Contents, Data, Ended, HasCount, HoldFew, HoldTooMany, IfErr-weaker, IsAccepted, IsAcceptedAs, IsAcceptedKernel, IsEnded, IsOfKernel, IsOwn, IsValid, IsWholeRun, Kernel, LacksMemory, LongFile, LongImage, LongProgram, Missing, OneAtMost, Outcome, PROGRAM_BYTES, Performs, PlanView, Program, ReadFault, Refusal, RefusesFlows, Rose, SaysLine, Settings, TooManyItems, TookPrefix, TookPrefix-whole, Trace, accepted_once, cases_lt, end_line, end_status, err_from_is_err_and, flushed, inputs_of, kernel_end, long_file, long_program, one_kernel_end, outcome_of, output_text, performs_outcome, performs_refusal, read_fit, refused, some_kernel_end, status_of, told, too_many_items, write_line}

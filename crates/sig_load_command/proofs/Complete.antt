@@ -1,5 +1,5 @@
--- A generated program that is accepted comes to an outcome, and one that can be run over its flows to the end of its load.
-use Rattle.sig_load_command.proofs.Common.{◌⊎◌, ◌<◌, ◌≤◌, ℕ, ℤ, false, List, length, None, ⊎_elim, inl, inr, refl, sym, ap, subst, arith, cases_lt, FLOW_BYTES, INSTANTS_DEFAULT, AreFlows, inputs_of, Kernel, some_kernel_end, read_fit, flows, program, Settings, Outcome, long_file, refused, too_many_items, IsEnded, accepted_once, program_apart, AtLinks, HoldFew, items_are, RefusesFlows, flows_apart, flows_either, one_flows, is_ended, CanLoad, IsShortProgram, AtFlowsText, AtProgramText, LoadComesTo, LoadsTo, counted, flows_name}
+-- Every load comes to an outcome, and one that can be run over its flows to the end of its load.
+use Rattle.sig_load_command.proofs.Common.{◌⊎◌, ◌<◌, ◌≤◌, ℕ, ℤ, Bool, false, List, length, None, ⊎_elim, inl, inr, refl, sym, ap, subst, arith, cases_lt, FLOW_BYTES, INSTANTS_DEFAULT, AreFlows, inputs_of, Kernel, some_kernel_end, read_fit, flows, program, Settings, Outcome, long_file, refused, too_many_items, IsEnded, HasVerdict, accepted_once, program_apart, AtLinks, HoldFew, items_are, RefusesFlows, flows_apart, flows_either, one_flows, is_ended, CanLoad, IsShortProgram, AtFlowsText, AtProgramText, LoadComesTo, LoadsTo, counted, flows_name}
 
 -- a generated program that is accepted comes to an outcome, whatever its flows are
 module _ (seed stages : ℕ) (settings : Settings) (kernel : Kernel) (accepted : IsShortProgram (program stages) kernel) where
@@ -15,14 +15,27 @@ module _ (seed stages : ℕ) (settings : Settings) (kernel : Kernel) (accepted :
   by_flows (inr short) (inl good) = let behind = over good.0 good.1 in (behind.0, inr (inr (good.0, (short, good.1), behind.1)))
   by_flows (inr short) (inr bad) = (refused 4 bad.0 None, inr (inl (bad.0, short, bad.1, refl)))
 
-  few_load : HoldFew kernel settings.capacity → (o : Outcome) × LoadComesTo seed stages settings o
+  abbrev BehindProgram : Outcome → Type 0
+  BehindProgram o = AtLinks kernel settings.capacity None (AtFlowsText kernel (flows seed stages) (LoadsTo stages kernel)) o
+
+  few_load : HoldFew kernel settings.capacity → (o : Outcome) × BehindProgram o
   few_load few =
       let behind = by_flows (cases_lt FLOW_BYTES (length (flows seed stages))) (flows_either flows_name (inputs_of kernel) (flows seed stages)) in
-      (behind.0, inr (kernel, accepted, inr (few, behind.1)))
+      (behind.0, inr (few, behind.1))
+
+  some_behind : (o : Outcome) × BehindProgram o
+  some_behind = ⊎_elim (λ many. (refused 2 too_many_items None, inl (many, refl))) few_load (items_are kernel accepted.1.accepted settings.capacity)
 
   pub some_outcome : (o : Outcome) × LoadComesTo seed stages settings o
-  some_outcome =
-      ⊎_elim (λ many. (refused 2 too_many_items None, inr (kernel, accepted, inl (many, refl)))) few_load (items_are kernel accepted.1.accepted settings.capacity)
+  some_outcome = (some_behind.0, inr (kernel, accepted, some_behind.1))
+
+-- and whatever the generated program is
+of_verdict : (seed stages : ℕ) (settings : Settings) → HasVerdict false (program stages) → (o : Outcome) × LoadComesTo seed stages settings o
+of_verdict seed stages settings (inl is) = some_outcome seed stages settings is.kernel (is.short, is.is)
+of_verdict seed stages settings (inr bad) = (refused 1 bad.0 None, inl (bad.0, bad.1, refl))
+
+pub any_outcome : ((pace : Bool) (bytes : List ℕ) → HasVerdict pace bytes) → (seed stages : ℕ) (settings : Settings) → (o : Outcome) × LoadComesTo seed stages settings o
+any_outcome verdicts seed stages settings = of_verdict seed stages settings (verdicts false (program stages))
 
 module _ (seed stages : ℕ) (settings : Settings) (can : CanLoad seed stages settings) where
   abbrev AtKernel : Kernel → Outcome → Type 0

@@ -1,6 +1,7 @@
 pub mod Common
 pub mod TakenPieces
 pub mod Stages
+pub mod FoundFiles
 pub mod Refused
 pub mod OneFile
 pub mod PerformedCalls

@@ -52,6 +52,16 @@ pub mod RefusedTogether
 pub mod RefusedDefinitions
 pub mod Outcomes
 pub mod RefusedPrograms
+pub mod NextLeaf
+pub mod NextOperators
+pub mod Verdicts
+pub mod VerdictsOfLeaves
+pub mod VerdictsOfExpressions
+pub mod VerdictsOfSides
+pub mod VerdictsOfDeclarations
+pub mod VerdictsOfBodies
+pub mod VerdictsOfProcesses
+pub mod VerdictsOfTexts
 unfoldable pub use Common.*
 pub use BodyLemmas.*
 pub use ClosedRows.*
@@ -93,6 +103,7 @@ pub use RepeatedParts.*
 pub use SettledBodies.*
 pub use Steps.*
 pub use Tables.*
+pub use VerdictsOfTexts.*
 pub use Rattle.sig_parse.proofs.CoveredParts.{no_more}
 pub use Rattle.sig_parse.proofs.ExpressionRows.{Enclosed}
 pub use Rattle.sig_parse.proofs.LiftedRefusals.{one_more}

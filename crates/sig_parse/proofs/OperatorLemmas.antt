@@ -37,7 +37,7 @@ one_operator op other e = sym (there_and_back op) ∙ ap from_tree (infix_same (
 pub of_level : (level : ℕ) (t : Terminal) → IsOperatorOf level t → IsOfLevel level t
 of_level level t (op, e, own) = (in_tree op, e ∙ same_terminal op, sym (same_level op) ∙ own)
 
-from_level : (level : ℕ) (t : Terminal) (i : TreeInfix) → t ≡ tree_terminal i → tree_level i ≡ level → IsOperatorOf level t
+pub from_level : (level : ℕ) (t : Terminal) (i : TreeInfix) → t ≡ tree_terminal i → tree_level i ≡ level → IsOperatorOf level t
 from_level level t (OfTwo op) e own = (Binary op, e, own)
 from_level level t OfCell e own = (Cell, e, own)
 from_level level t OfDelay e own = (DelayOp, e, own)
@@ -105,7 +105,7 @@ other_level op level [] starts other = tt
 other_level op level (l ∷ leaves) starts other = λ (found, e, own). other (ap infix_level (one_operator op found (sym starts ∙ e)) ∙ own)
 
 -- the level of a number
-abbrev level_from : ℕ → Level
+abbrev pub level_from : ℕ → Level
 level_from n = cond (eqb n 0) Default (cond (eqb n 1) Mixed (cond (eqb n 2) Clock (cond (eqb n 3) Or (cond (eqb n 4) And (cond (eqb n 5) Not
     (cond (eqb n 6) Relation (cond (eqb n 7) Sum (cond (eqb n 8) Product (cond (eqb n 9) Minus (cond (eqb n 10) Delay Primary))))))))))
 

@@ -44,7 +44,7 @@ ended depth models groups b = record {
       (subst (λ (ls : List Leaf). AreDeclared depth (models ++ []) (groups ++ []) ls) (append-nil b.front) (b.begin [] [] [] refl)));
 }
 
-group_more : (depth : ℕ) (models : List ProcessModel) (groups : List Declared) (g : Declared) {s t u : State}
+pub group_more : (depth : ℕ) (models : List ProcessModel) (groups : List Declared) (g : Declared) {s t u : State}
     → Begun depth models groups s t → Covers (IsLocalGroup g) t u → Begun depth models (groups ++ g ∷ []) s u
 group_more depth models groups g {s} {t} {u} b r = record {
   front = b.front ++ r.front;
@@ -55,7 +55,7 @@ group_more depth models groups g {s} {t} {u} b r = record {
       (b.begin ms (g ∷ gs) (r.front ++ back) (group_first depth ms g gs r.front back r.is h)));
 }
 
-process_more : (depth : ℕ) (models : List ProcessModel) (groups : List Declared) (m : ProcessModel) {s t u : State}
+pub process_more : (depth : ℕ) (models : List ProcessModel) (groups : List Declared) (m : ProcessModel) {s t u : State}
     → Begun depth models groups s t → Covers (IsInnerProcess depth m) t u → Begun depth (models ++ m ∷ []) groups s u
 process_more depth models groups m {s} {t} {u} b r = record {
   front = b.front ++ r.front;

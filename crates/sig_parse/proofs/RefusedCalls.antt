@@ -1,5 +1,5 @@
 -- What is refused of calls, of their constants and of their arguments, where the parser stands.
-use Rattle.sig_parse.proofs.Common.{◌≡◌, ◌++◌, ◌+◌, ◌≤◌, ◌<◌, ℕ, List, [], ◌∷◌, codes, map, sum_by, true, false, inl, inr, ◌⊎◌, refl, sym, ap, ◌∙◌, subst, arith, append-nil, Span, Name, Constant, Expr, expression_of, RightSide, Computed, Called, Leaf, leaf, mark, name_leaf, default_level, Limits, both_limits, MayHave, operators, right_operators, Between, Listed, Separated, IsConstant, IsExpression, IsName, AreConstants, IsRight, StartsWith, BeginsName, BeginsConstant, BeginsLeft, StopsBefore, OneReading, ContinuesNothing, ContinuesOptional, ContinuesEach, ContinuesList, ContinuesExpression, ContinuesDefinition, no_place, different, constant_once, cons_same, between_once, listed_once, constant_begins, mark_apart, stops_nothing, names_once, call_or_expression, Opens, Refusal, State, Reads, IsLeaf, Cause, Wrong, TooDeep, Refuses, RefusedBy, Settles, Closes, BeginsCall, InLeaf, InOne, counted, InConstant, InConstantList, InConstants, InLevel, InArgumentList, InArguments, InRight, InLeft, InSome, UpTo, InNames, ReadsSeparated, RefusesSeparated}
+use Rattle.sig_parse.proofs.Common.{◌≡◌, ◌++◌, ◌+◌, ◌≤◌, ◌<◌, ℕ, List, [], ◌∷◌, codes, map, sum_by, true, false, inl, inr, ◌⊎◌, refl, sym, ap, ◌∙◌, subst, arith, append-nil, Span, Name, Constant, Expression, RightSide, Computed, Called, Leaf, leaf, mark, name_leaf, default_level, Limits, both_limits, MayHave, operators, right_operators, Between, Listed, Separated, IsConstant, IsExpression, IsName, AreConstants, IsRight, StartsWith, BeginsName, BeginsConstant, BeginsLeft, StopsBefore, OneReading, ContinuesNothing, ContinuesOptional, ContinuesEach, ContinuesList, ContinuesExpression, ContinuesDefinition, no_place, different, constant_once, cons_same, between_once, listed_once, constant_begins, mark_apart, stops_nothing, names_once, call_or_expression, Opens, Refusal, State, Reads, IsLeaf, Cause, Wrong, TooDeep, Refuses, RefusedBy, Settles, Closes, BeginsCall, InLeaf, InOne, counted, InConstant, InConstantList, InConstants, InLevel, InArgumentList, InArguments, InRight, InLeft, InSome, UpTo, InNames, ReadsSeparated, RefusesSeparated}
 use Rattle.sig_parse.proofs.PartRefusals.{SameFirst, refuses_first}
 use Rattle.sig_parse.proofs.CoveredParts.{covered}
 use Rattle.sig_parse.proofs.LiftedRefusals.{Lifts, leaf_split}
@@ -13,7 +13,7 @@ use Rattle.sig_parse.proofs.Rows.{none_of}
 use Rattle.sig_parse.proofs.ReadRows.{plain_reads, plain_not_closed, plain_closes}
 use Rattle.sig_parse.proofs.ClosedRows.{Closed}
 use Rattle.sig_parse.proofs.ExpressionRows.{ExpressionRead, ExpressionRefused, expressions_so_far, enclosed_refused, enclosed_closes}
-use Rattle.sig_parse.proofs.Enclosures.{optional_settled, leaf_next}
+use Rattle.sig_parse.proofs.Enclosures.{optional_missing, optional_settled, leaf_next}
 use Rattle.sig_parse.proofs.EnclosedParts.{between}
 use Rattle.sig_parse.proofs.PassedLanguages.{Leads, Then, Apart, settled_once, leads_on, leads_refuses, leads_settled, then_first, refuses_as, starts_same}
 
@@ -85,6 +85,9 @@ some_constants opened closed constants {s} {t} {u} {v} q r p = optional_settled 
     (settled_once (λ limits constants leaves. Between (mark (codes "{")) (mark (codes "}")) (Listed IsConstant (mark (codes ",")) constants) leaves) ContinuesNothing braced_once (λ limits x leaves is. is) constants
     (covered (between (mark (codes "{")) (mark (codes "}")) (Listed IsConstant (mark (codes ",")) constants) 0 opened closed q r p)) (stops_nothing v.leaves))
 
+pub constants_missing : {here : List Leaf} → StopsBefore (λ t. t ≡ mark (codes "{")) here → Settles InConstants (ContinuesOptional (mark (codes "{"))) here here
+constants_missing stopped = optional_missing InConstants Braced (mark (codes "{")) braced_some braced_or_none braced_begins stopped
+
 pub constants_close : (opened : Span) {s t : State} {here : List Leaf} → Reads (IsLeaf (mark (codes "{")) opened) 0 s t → Closes InConstantList (mark (codes "}")) t.leaves here
     → Lifts (InLeaf (mark (codes "}"))) ContinuesNothing here InConstants (ContinuesOptional (mark (codes "{"))) s.leaves
 constants_close opened q closes cause after r = constants_lifts opened q cause after (closes cause after r)
@@ -105,18 +108,18 @@ module _ (depth : ℕ) where
   close : ContinuesExpression default_level (mark (codes ")")) → ⊥
   close continues = mark_apart (codes ")") refl default_level continues
 
-  pub arguments_read : (arguments : List Expr) (s t : State) → ReadsSeparated (ExpressionRead depth) (mark (codes ",")) arguments s t
+  pub arguments_read : {B : Type 0} (expression_of : B → Expression) (arguments : List B) (s t : State) → ReadsSeparated (ExpressionRead expression_of depth) (mark (codes ",")) arguments s t
       → Reads (Listed (IsExpression both_limits depth) (mark (codes ",")) (map expression_of arguments)) (sum_by operators (map expression_of arguments)) s t
-  arguments_read arguments s t (h, stops) = viewed (Listed (IsExpression both_limits depth) (mark (codes ",")) (map expression_of arguments))
-      (λ front is. listed (IsExpression both_limits depth) (mark (codes ",")) (map expression_of arguments) front is) (expressions_so_far depth (mark (codes ",")) comma s arguments t h).0
+  arguments_read expression_of arguments s t (h, stops) = viewed (Listed (IsExpression both_limits depth) (mark (codes ",")) (map expression_of arguments))
+      (λ front is. listed (IsExpression both_limits depth) (mark (codes ",")) (map expression_of arguments) front is) (expressions_so_far expression_of depth (mark (codes ",")) comma s arguments t h).0
 
-  pub arguments_refused : (why : Refusal) (s t : State) → s.operators ≤ 512 → StopsBefore (λ u. u ≡ mark (codes ")")) s.leaves → RefusesSeparated (ExpressionRead depth) (ExpressionRefused depth) (mark (codes ",")) s t why
+  pub arguments_refused : {B : Type 0} (expression_of : B → Expression) (why : Refusal) (s t : State) → s.operators ≤ 512 → StopsBefore (λ u. u ≡ mark (codes ")")) s.leaves → RefusesSeparated (ExpressionRead expression_of depth) (ExpressionRefused expression_of depth) (mark (codes ",")) s t why
       → RefusedBy (InArgumentList depth s.operators) ContinuesNothing s t why
-  arguments_refused why s t few open_here h = enclosed_refused depth (mark (codes ",")) comma (mark (codes ")")) parenthesis_apart close why s t few open_here h
+  arguments_refused expression_of why s t few open_here h = enclosed_refused expression_of depth (mark (codes ",")) comma (mark (codes ")")) parenthesis_apart close why s t few open_here h
 
-  pub arguments_end : (arguments : List Expr) (s t : State) → s.operators ≤ 512 → StopsBefore (λ u. u ≡ mark (codes ")")) s.leaves → ReadsSeparated (ExpressionRead depth) (mark (codes ",")) arguments s t
+  pub arguments_end : {B : Type 0} (expression_of : B → Expression) (arguments : List B) (s t : State) → s.operators ≤ 512 → StopsBefore (λ u. u ≡ mark (codes ")")) s.leaves → ReadsSeparated (ExpressionRead expression_of depth) (mark (codes ",")) arguments s t
       → Closes (InArgumentList depth s.operators) (mark (codes ")")) s.leaves t.leaves
-  arguments_end arguments s t few open_here h = enclosed_closes depth (mark (codes ",")) comma (mark (codes ")")) parenthesis_apart close s arguments t few open_here h
+  arguments_end expression_of arguments s t few open_here h = enclosed_closes expression_of depth (mark (codes ",")) comma (mark (codes ")")) parenthesis_apart close s arguments t few open_here h
 
   -- in parentheses
   pub arguments_opening : (used : ℕ) (here : List Leaf) → used ≤ 512 → Lifts (InLeaf (mark (codes "("))) ContinuesNothing here (InArguments depth used) ContinuesNothing here

@@ -1,5 +1,5 @@
 -- What is refused of definitions and clock equations, where the parser stands.
-use Rattle.sig_parse.proofs.Common.{◌≡◌, ◌++◌, ◌+◌, ◌≤◌, ◌<◌, ℕ, List, [], ◌∷◌, length, codes, map, sum_by, inl, inr, refl, sym, ap, subst, arith, sum_by_push, Span, Name, Expr, Expression, expression_of, Named, Computed, Terminal, Leaf, leaf, mark, default_level, Limits, both_limits, no_limits, MayHave, operators, Separated, IsExpression, IsLeft, IsClockEquation, StopsBefore, ContinuesNothing, ContinuesExpression, ContinuesDefinition, ContinuesClockEquation, no_place, left_unlimited, left_within, named_alone, left_once, Refusal, State, Covers, IsLeaf, Cause, Wrong, cause_of, Refuses, RefusedBy, Settles, InLeaf, counted, InLeft, InRight, InDefinition, InClockEquation, ReadsSeparated, RefusesSeparated}
+use Rattle.sig_parse.proofs.Common.{◌≡◌, ◌++◌, ◌+◌, ◌≤◌, ◌<◌, ℕ, List, [], ◌∷◌, length, codes, map, sum_by, inl, inr, refl, sym, ap, subst, arith, sum_by_push, Span, Name, Expression, Named, Computed, Terminal, Leaf, leaf, mark, default_level, Limits, both_limits, no_limits, MayHave, operators, Separated, IsExpression, IsLeft, IsClockEquation, StopsBefore, ContinuesNothing, ContinuesExpression, ContinuesDefinition, ContinuesClockEquation, no_place, left_unlimited, left_within, named_alone, left_once, Refusal, State, Covers, IsLeaf, Cause, Wrong, cause_of, Refuses, RefusedBy, Settles, InLeaf, counted, InLeft, InRight, InDefinition, InClockEquation, ReadsSeparated, RefusesSeparated}
 use Rattle.sig_parse.proofs.PartRefusals.{refuses_first}
 use Rattle.sig_parse.proofs.Lists.{separated_more}
 use Rattle.sig_parse.proofs.RefusedConstants.{some_name, some_leaf}
@@ -44,7 +44,7 @@ module _ (depth : ℕ) where
 
   -- expr "^=" expr { "^=" expr }: a list of expressions, that are more than one
   abbrev Operands : Limits → List Leaf → Type 0
-  Operands limits leaves = Expressions depth (mark (codes "^=")) (apart depth) 0 limits leaves
+  Operands limits leaves = Expressions (λ (e : Expression). e) depth (mark (codes "^=")) (apart depth) 0 limits leaves
 
   one_more : (limits : Limits) (leaves : List Leaf) (xs : List Expression) → Separated (IsExpression limits depth) (mark (codes "^=")) xs leaves → MayHave limits (0 + counted operators xs)
       → InClockEquation depth limits (leaves ++ same_clock depth no_place ∷ some_leaf ∷ [])
@@ -67,16 +67,16 @@ module _ (depth : ℕ) where
   operands_of limits leaves (x ∷ []) is = absurd is
   operands_of limits leaves (x ∷ y ∷ others) (are, few) = (x ∷ y ∷ others, are, fewer limits (0 + counted operators (x ∷ y ∷ others)) (sum_by operators (x ∷ y ∷ others)) (omega (arith, counted_sum (x ∷ y ∷ others))) few)
 
-  pub clock_refused : (why : Refusal) (s t : State) → s.operators ≡ 0 → RefusesSeparated (ExpressionRead depth) (ExpressionRefused depth) (mark (codes "^=")) s t why → RefusedBy (InClockEquation depth) ContinuesClockEquation s t why
-  clock_refused why s t none h text = refuses_first Operands (InClockEquation depth) (same_clock depth no_place ∷ some_leaf ∷ []) (λ limits leaves is. one_more limits leaves is.0 is.1 is.2)
+  pub clock_refused : {B : Type 0} (expression_of : B → Expression) (why : Refusal) (s t : State) → s.operators ≡ 0 → RefusesSeparated (ExpressionRead expression_of depth) (ExpressionRefused expression_of depth) (mark (codes "^=")) s t why → RefusedBy (InClockEquation depth) ContinuesClockEquation s t why
+  clock_refused expression_of why s t none h text = refuses_first Operands (InClockEquation depth) (same_clock depth no_place ∷ some_leaf ∷ []) (λ limits leaves is. one_more limits leaves is.0 is.1 is.2)
       ContinuesClockEquation ContinuesClockEquation (cause_of why) s.leaves t.leaves (λ limits whole back is stops same. (whole, back, refl, operands_of limits whole is.0 is.1, stops))
-      (subst (λ (n : ℕ). Refuses (Expressions depth (mark (codes "^=")) (apart depth) n) ContinuesClockEquation (cause_of why) s.leaves t.leaves) none (expressions_refused depth (mark (codes "^=")) (apart depth) why s t (omega arith) h text))
+      (subst (λ (n : ℕ). Refuses (Expressions expression_of depth (mark (codes "^=")) (apart depth) n) ContinuesClockEquation (cause_of why) s.leaves t.leaves) none (expressions_refused expression_of depth (mark (codes "^=")) (apart depth) why s t (omega arith) h text))
 
   -- one expression, and no "^=" behind it
-  pub clock_alone : (es : List Expr) (s t : State) → s.operators ≡ 0 → length es < 2 → ReadsSeparated (ExpressionRead depth) (mark (codes "^=")) es s t → Refuses (InClockEquation depth) ContinuesClockEquation Wrong s.leaves t.leaves
-  clock_alone [] s t none few (h, stops) = absurd h
-  clock_alone (e ∷ f ∷ others) s t none few h = absurd (omega arith)
-  clock_alone (e ∷ []) s t none few ((read, (r, stopped), same), stops) =
+  pub clock_alone : {B : Type 0} (expression_of : B → Expression) (es : List B) (s t : State) → s.operators ≡ 0 → length es < 2 → ReadsSeparated (ExpressionRead expression_of depth) (mark (codes "^=")) es s t → Refuses (InClockEquation depth) ContinuesClockEquation Wrong s.leaves t.leaves
+  clock_alone expression_of [] s t none few (h, stops) = absurd h
+  clock_alone expression_of (e ∷ f ∷ others) s t none few h = absurd (omega arith)
+  clock_alone expression_of (e ∷ []) s t none few ((read, (r, stopped), same), stops) =
       let within : operators (expression_of e) ≤ 512 = omega (arith, none, r.counted, r.few (omega (arith, none))) in
       subst (λ (ls : List Leaf). Refuses (InClockEquation depth) ContinuesClockEquation Wrong ls t.leaves) (sym r.split)
       (clock_sign depth (expression_of e) r.front r.is within Wrong read.leaves t.leaves stopped (leaf_missing (mark (codes "^=")) (same, subst (λ (x : State). StopsBefore (λ u. u ≡ mark (codes "^=")) x.leaves) same stops) (λ memory. cc)))

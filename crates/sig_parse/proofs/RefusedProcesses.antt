@@ -1,5 +1,5 @@
 -- What is refused of processes, from their parts.
-use Rattle.sig_parse.proofs.Common.{◌≡◌, ◌++◌, ◌⊎◌, ◌<◌, ℕ, suc, List, [], ◌∷◌, true, false, codes, None, inl, inr, refl, sym, ap, ◌∙◌, subst, append_assoc, Span, Integer, Boolean, Event, Not, Neg, When as UnaryWhen, Clock, Declared, ProcessModel, ProcessModels, no_model, more_models, Terminal, Leaf, leaf, name_leaf, number, word, mark, default_level, Limits, both_limits, no_limits, MayStandInside, IsLocalGroup, IsModel, AreLocals, StartsWith, BeginsBody, BeginsGroup, BeginsProcess, StopsBefore, OneReading, ContinuesNothing, ContinuesOptional, ContinuesBody, ContinuesLocals, no_place, different, infix_of, no_infix, model_unlimited, model_within, local_group_begins, model_begins, cons_same, append_to, mark_apart, stops_nothing, name_same, local_group_once, model_once, locals_at, IsTitle, IsInnerProcess, AreDeclared, State, Covers, IsLeaf, Cause, Refuses, Settles, InAny, UpTo, InLocalGroup, InProcess, IsDeclared, InDeclared, InWhere}
+use Rattle.sig_parse.proofs.Common.{◌≡◌, ◌++◌, ◌⊎◌, ◌<◌, ℕ, suc, List, [], ◌∷◌, true, false, codes, None, inl, inr, refl, sym, ap, ◌∙◌, subst, append_assoc, Span, Integer, Boolean, Event, Not, Neg, When as UnaryWhen, Clock, Declared, ProcessModel, ProcessModels, no_model, more_models, Terminal, Leaf, leaf, number, word, mark, default_level, Limits, both_limits, no_limits, MayStandInside, IsLocalGroup, IsModel, AreLocals, StartsWith, BeginsBody, BeginsGroup, BeginsProcess, StopsBefore, OneReading, ContinuesNothing, ContinuesOptional, ContinuesBody, ContinuesLocals, no_place, different, infix_of, no_infix, model_unlimited, model_within, local_group_begins, model_begins, cons_same, append_to, mark_apart, stops_nothing, name_same, local_group_once, model_once, locals_at, IsTitle, IsInnerProcess, AreDeclared, State, Covers, IsLeaf, Cause, Refuses, Settles, InAny, UpTo, InLocalGroup, InProcess, IsDeclared, InDeclared, InWhere}
 use Rattle.sig_parse.proofs.PartRefusals.{SameFirst}
 use Rattle.sig_parse.proofs.PassedLanguages.{Leads, Then, leads_refuses, settles_on, refuses_where, leads_where, apart_nothing, then_first, leads_alone, settled_once, Leaf_of, leads_leaf, starts_or_stops, starts_same}
 use Rattle.sig_parse.proofs.RefusedDeclarations.{Always}

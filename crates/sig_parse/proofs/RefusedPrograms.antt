@@ -70,7 +70,7 @@ none_goes_on limits passed [] excluded (processes, is) = excluded passed passed 
 none_goes_on limits passed (l ∷ after) excluded (rest, processes, is) =
     excluded ((passed ++ l ∷ []) ++ rest) ((passed ++ l ∷ []) ++ rest) [] (rest, append_assoc passed (l ∷ []) rest) (sym (append-nil ((passed ++ l ∷ []) ++ rest))) (processes, is) tt
 
-is_refused : (leaves : List Leaf) (end at : Span) (cause : Cause) {here stopped : List Leaf} → here ≡ leaves → at ≡ place_of stopped end → Refuses InProgram IsAnything cause here stopped → IsRefused leaves end cause at
+pub is_refused : (leaves : List Leaf) (end at : Span) (cause : Cause) {here stopped : List Leaf} → here ≡ leaves → at ≡ place_of stopped end → Refuses InProgram IsAnything cause here stopped → IsRefused leaves end cause at
 is_refused leaves end at cause {here} {stopped} whole place r = record {
   passed = r.passed;
   after = stopped;

@@ -21,6 +21,6 @@ mod refusal;
 mod separated;
 mod sides;
 
-pub use laws::one_refusal;
+pub use laws::{one_refusal, some_verdict};
 pub use parse_answer::ParseAnswer;
 pub use program::{parse, parse_owned};

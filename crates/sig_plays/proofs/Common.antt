@@ -25,10 +25,11 @@ pub use Rattle.sig_core.proofs.EventsToTheEnd.{Join, more_then, text_append}
 pub use Rattle.sig_core.proofs.RunningOut.{join_part}
 pub use Rattle.sig_outcome.specs.Outcomes.{Bad}
 pub use Rattle.sig_outcome.specs.Tasks.{begun_after}
+pub use Rattle.sig_outcome.proofs.FoundFiles.{some_at_data}
 pub use Rattle.sig_compile.proofs.Common.{IfOk-weaker, IsPlanOf, OutOfMemory, Ref, some_plan, take_more}
+pub use Rattle.sig_compile.proofs.SomeOutcome.{HasVerdict, some_at_plan}
 pub use Rattle.sig_runs.proofs.Common.{Absent, AreFlows, AreRefused, AtFile, AtFlows, AtLinks, Budget, Contents, Data, FindsAccepted, FindsFlows, Found, Good, HasCount, HoldFew, Holds, ITEMS, IfErr-weaker, IfSome_then, IsAcceptedAs, IsAcceptedKernel, IsDue, IsEnded, IsOfKernel, IsOwn, IsRunStatus, LacksMemory, Long, LongFile, LongImage, LongProgram, Missing, OneAtMost, Outcome, PROGRAM_BYTES, Performs, Program, Reaches, ReadFault, Refusal, RefusesFlows, Rose, RunComesTo, RunsTo, SaysLine, Settings, Stops, TooManyItems, TookPrefix, TookPrefix-whole, Word, about_data, accepted_once, accepted_or_refused, at_file_ends, behind_data, end_line, end_status, err_from_is_err_and, first_from_some, inputs_of, kernel_end, later_count, later_own, links_once, long_file, long_program, name_where_there, one_at_data, one_at_program, one_kernel_end, outcome_of, performs_outcome, performs_refusal, plan_links, read_fit, refused, refused_data, refused_once, running, some_end, status_of, told, told_both, too_many_items, words_of, write_line}
 pub use Rattle.sig_runs.proofs.Complete.{behind_files, flows_either}
-pub use Rattle.sig_runs.proofs.FoundFiles.{some_at_data}
 pub use Rattle.sig_runs.proofs.OneRun.{flows_apart, no_flows_line, one_at_links, one_flows}
 pub use Rattle.sig_runs.proofs.Plans.{end_there, items_are}
 pub use Rattle.sig_runs.proofs.Written.{is_ended, no_six}

@@ -1,5 +1,5 @@
--- An accepted program comes to an outcome, and events that can be played to the end of their play.
-use Rattle.sig_plays.proofs.Common.{◌≡◌, ◌⊎◌, ◌++◌, ℕ, ℤ, List, map, Some, ⊎_elim, inl, inr, refl, sym, ap, subst, PROGRAM_BYTES, Contents, run_of, output_text, AreFlowsFor, inputs_of, Kernel, PlanView, some_end, end_of_kernel, some_plan, IsPlanOf, reactions_text, after_begins, AreEvents, AreFlows, FileEvent, EventAnswer, None, Option, event_judge, events_among, first_fault, first_from_some, good_from_none, lines_of, read_fit, Settings, Holds, Good, Outcome, refused, too_many_items, IsEnded, IsAcceptedAs, behind_data, behind_files, flows_either, some_at_data, HoldFew, items_are, RefusesFlows, is_ended, CanPlay, AtEvents, RefusesEvents, bad_events, happens, IsRest, PlayComesTo, PlaysTo, left_by, played}
+-- Every program comes to an outcome, and events that can be played to the end of their play.
+use Rattle.sig_plays.proofs.Common.{◌≡◌, ◌⊎◌, ◌++◌, ℕ, ℤ, Bool, List, map, Some, ⊎_elim, inl, inr, refl, sym, ap, subst, PROGRAM_BYTES, Contents, run_of, output_text, AreFlowsFor, inputs_of, Kernel, PlanView, some_end, end_of_kernel, some_plan, IsPlanOf, reactions_text, after_begins, AreEvents, AreFlows, FileEvent, EventAnswer, None, Option, event_judge, events_among, first_fault, first_from_some, good_from_none, lines_of, read_fit, Settings, Holds, Good, Outcome, refused, too_many_items, IsEnded, IsAcceptedAs, behind_data, behind_files, flows_either, some_at_data, HoldFew, items_are, RefusesFlows, is_ended, AtFlows, AtLinks, HasVerdict, some_at_plan, CanPlay, AtEvents, RefusesEvents, bad_events, happens, IsRest, PlayComesTo, PlaysTo, left_by, played}
 use Rattle.sig_plays.proofs.OnePlay.{events_apart, no_events_line, one_events}
 
 -- bytes have a reading as events, or are refused with a line
@@ -48,16 +48,29 @@ module _ (held : Contents) (program flows events : List ℕ) (settings : Setting
         some_at_data AreEvents (RefusesEvents events) (events_either events) held events
         (λ happening. PlaysTo kernel values settings.capacity settings.instants events happening) played_to
 
-  few_play : HoldFew kernel settings.capacity → (o : Outcome) × PlayComesTo held program flows events settings o
+  abbrev BehindProgram : Outcome → Type 0
+  BehindProgram o = AtLinks kernel settings.capacity (Some program) (AtFlows held flows (inputs_of kernel) (λ values. AtEvents held events (λ happening. PlaysTo kernel values settings.capacity settings.instants events happening))) o
+
+  few_play : HoldFew kernel settings.capacity → (o : Outcome) × BehindProgram o
   few_play few =
       let behind = some_at_data (AreFlows (inputs_of kernel)) (RefusesFlows flows (inputs_of kernel)) (flows_either flows (inputs_of kernel)) held flows
       (λ values. AtEvents held events (λ happening. PlaysTo kernel values settings.capacity settings.instants events happening)) at_events in
-      (behind.0, (Good kernel, accepted, inr (few, behind.1)))
+      (behind.0, inr (few, behind.1))
+
+  some_behind : (o : Outcome) × BehindProgram o
+  some_behind =
+      ⊎_elim (λ many. (refused 2 too_many_items (Some program), inl (many, refl))) few_play
+      (items_are kernel accepted.good.accepted settings.capacity)
 
   pub some_outcome : (o : Outcome) × PlayComesTo held program flows events settings o
-  some_outcome =
-      ⊎_elim (λ many. (refused 2 too_many_items (Some program), (Good kernel, accepted, inl (many, refl)))) few_play
-      (items_are kernel accepted.good.accepted settings.capacity)
+  some_outcome = (some_behind.0, (Good kernel, accepted, some_behind.1))
+
+-- and whatever the program file holds
+pub any_outcome : ((pace : Bool) (bytes : List ℕ) → HasVerdict pace bytes) → (held : Contents) (program flows events : List ℕ) (settings : Settings) → (o : Outcome) × PlayComesTo held program flows events settings o
+any_outcome verdicts held program flows events settings =
+    some_at_plan verdicts settings.pace held program
+    (λ kernel. AtLinks kernel settings.capacity (Some program) (AtFlows held flows (inputs_of kernel) (λ values. AtEvents held events (λ happening. PlaysTo kernel values settings.capacity settings.instants events happening))))
+    (λ kernel accepted. some_behind held program flows events settings kernel accepted)
 
 module _ (held : Contents) (program flows events : List ℕ) (settings : Settings) (can : CanPlay held program flows events settings) where
   pub only_end : (o : Outcome) → PlayComesTo held program flows events settings o → PlaysTo can.run.kernel can.run.values settings.capacity settings.instants events can.happening o

@@ -5,16 +5,21 @@ ghost use Rattle.sig_plays.specs.Prelude.{ℕ, List, PROGRAM_BYTES, Contents, Ke
 ghost use Rattle.sig_plays.specs.Complete.{CanPlay};
 ghost use Rattle.sig_plays.specs.Plays.{PlayComesTo, PlaysTo};
 
-/// A law: an accepted program comes to exactly one outcome, whatever the flow file and the event file hold and
-/// whether they are there; and no play over told contents comes to two.
+use sig_compile::programs_have_a_verdict;
+
+/// A law: a play over told contents comes to exactly one outcome, whatever its files hold and whether they are
+/// there; and this is so of an accepted program.
 pub fn plays_have_one_outcome()
+    ensures every { (held : Contents) (program flows events : List ℕ) (settings : Settings) → (o : Outcome) × PlayComesTo held program flows events settings o }
     ensures some { (held : Contents) (program flows events : List ℕ) (settings : Settings) (kernel : Kernel)
         → Holds (held program) PROGRAM_BYTES (λ bytes. IsAcceptedAs settings.pace bytes kernel)
         → (o : Outcome) × PlayComesTo held program flows events settings o }
     ensures one { (held : Contents) (program flows events : List ℕ) (settings : Settings) (o other : Outcome)
         → PlayComesTo held program flows events settings o → PlayComesTo held program flows events settings other
         → o ≡ other }
-{}
+{
+    programs_have_a_verdict();
+}
 
 /// A law: events that can be played come to the end of their play: that, and nothing else, is what they come
 /// to, with the text of what they commit, of the state that they leave and of what is missing there of the

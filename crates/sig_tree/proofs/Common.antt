@@ -1,10 +1,15 @@
 -- What the proofs of this crate cite of std, of the crates below and of its own specs, passed on from one place.
 pub use Rattle.std.proofs.Common.{Bool, List, None, Option, Some, [], ap, append-nil, append_assoc, arith, bytes_eq, codes, cond, false, flat_map, inl, inr, le-leb, leb, length, length-append, map, neg_ℤ, pos, refl, subst, suc, sym, true, zero, ℕ, ℤ, ⊎_elim, ◌++◌, ◌+◌, ◌<◌, ◌∙◌, ◌∷◌, ◌≡◌, ◌≤◌, ◌⊎◌}
 pub use Rattle.std.proofs.lemmas.Bool.{cases_order}
+pub use Rattle.std.proofs.Math.Decide.{map_dec}
+pub use Rattle.std.specs.Prelude.{Any, Contains, is_some, zip, ⊤, ◌≢◌}
 pub use Rattle.std.proofs.lemmas.List.{append_cancel_left, append_cancel_right}
 pub use Rattle.std.proofs.lemmas.Option.{none-some, same_Some}
 pub use Rattle.std.specs.List.{AllZip}
 pub use Rattle.sig_lists.proofs.Bytes.{same_bytes}
+pub use Rattle.sig_lists.proofs.Contained.{contains_cons, contains_head, contains_later, contains_none}
+pub use Rattle.sig_lists.proofs.Decided.{dec_both, dec_contains, dec_either, dec_not, dec_number, dec_option, dec_some, dec_text, dec_truth}
+pub use Rattle.sig_lists.proofs.Searched.{searched_members}
 pub use Rattle.sig_lists.proofs.Each.{zip_back, zip_left, zip_same}
 pub use Rattle.sig_base.specs.Functions.{And as FunctionAnd, Difference, Function, Gives, Greater, GreaterEqual, Less as FunctionLess, LessEqual, Negative, Not as FunctionNot, NotEqual, Or as FunctionOr, Product, Quotient, Remainder, Sum, Xor as FunctionXor}
 pub use Rattle.sig_base.specs.Traces.{Bounded, Instant, IsLongest, IsPrefixOf, NoneSilent, Range, Seen, Trace, is_silent, reduce, seen_at}
@@ -13,7 +18,7 @@ pub use Rattle.sig_base.specs.declared.ids.Kind.TheVariants.{Boolean, Event, Int
 pub use Rattle.sig_lex.specs.declared.token.Token.{Token}
 pub use Rattle.sig_lex.proofs.Common.{AllByRecursion, Span, bytes_eq-Decides, cases_lt, lt-leb}
 pub use Rattle.sig_tree.specs.Beginning.{BeginsBody, BeginsConstant, BeginsExpression, BeginsGroup, BeginsLeft, BeginsName, BeginsPlacement, BeginsProcess, StartsWith}
-pub use Rattle.sig_tree.specs.Candidates.{Candidate, IsFirst, NoneHolds, Offence, each}
+pub use Rattle.sig_tree.specs.Candidates.{Candidate, IsFirst, NoneHolds, Offence, candidate, each}
 pub use Rattle.sig_tree.specs.Constants.{AreSignals, IsSignals, is_constant, is_function}
 pub use Rattle.sig_tree.specs.Continuing.{ContinuesBodies, ContinuesBody, ContinuesClockEquation, ContinuesDefinition, ContinuesDelay, ContinuesEach, ContinuesExpression, ContinuesFurtherBodies, ContinuesGroup, ContinuesGroups, ContinuesInit, ContinuesList, ContinuesLocals, ContinuesNothing, ContinuesOptional, ContinuesParam, ContinuesPlacements, ContinuesProgram, IsInfix}
 pub use Rattle.sig_tree.specs.Declarations.{all_processes, equations_of_model, inputs_of, outputs_of}

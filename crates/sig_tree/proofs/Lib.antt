@@ -1,6 +1,9 @@
 pub mod Common
 pub mod CandidateLemmas
 pub mod CombinedReadings
+pub mod DecidedCandidates
+pub mod DecidedKinds
+pub mod DecidedRules
 pub mod EquationLaws
 pub mod FirstLeaves
 pub mod OneExpansion
@@ -14,6 +17,7 @@ pub mod ReadEquations
 pub mod ReadExpressions
 pub mod ReadProcesses
 pub mod ReadSpines
+pub mod ReachedNames
 pub mod Reader
 pub mod SettledFunctions
 pub mod Silence
@@ -24,6 +28,8 @@ pub mod Unlimited
 pub mod UpTo
 pub use Common.*
 pub use CandidateLemmas.*
+pub use DecidedCandidates.*
+pub use DecidedRules.*
 pub use EquationLaws.*
 pub use FirstLeaves.*
 pub use OneExpansion.*

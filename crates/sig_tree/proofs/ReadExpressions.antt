@@ -1,6 +1,6 @@
 -- The reader gives an expression from its leaves, whatever stands behind them, as long as that does not
 -- continue it.
-use Rattle.sig_tree.proofs.Common.{◌≡◌, ℕ, zero, suc, ◌≤◌, ◌++◌, List, [], ◌∷◌, Bool, true, false, refl, sym, ap, ◌∙◌, subst, codes, Option, None, Some, inl, inr, cond, arith, append_assoc, le-leb, lt-leb, Span, Constant, UnOp, Not, Expression, Named, Number, Truth, Unary, Binary, Delay, Cell, Terminal, Leaf, leaf, word, number, mark, truth_word, unary_terminal, binary_terminal, default_level, mixed_level, delay_level, primary_level, unary_level, operand_level, binary_level, left_level, right_level, level_of, Limits, IsConstant, IsInit, IsOptionalInit, Enclosed, Stands, IsBare, IsAtLevel, StopsBefore, OneReading, ContinuesNothing, ContinuesInit, ContinuesDelay, ContinuesExpression}
+use Rattle.sig_tree.proofs.Common.{◌≡◌, ℕ, zero, suc, ◌≤◌, ◌++◌, List, [], ◌∷◌, Bool, true, false, refl, sym, ap, ◌∙◌, subst, codes, Option, None, Some, inl, inr, cond, arith, append_assoc, le-leb, lt-leb, Span, Constant, UnOp, Not, Expression, Named, Number, Truth, Unary, Binary, Delay, Cell, Terminal, Leaf, leaf, word, number, mark, truth_word, unary_terminal, default_level, mixed_level, delay_level, primary_level, unary_level, operand_level, binary_level, left_level, right_level, level_of, Limits, IsConstant, IsInit, IsOptionalInit, Enclosed, Stands, IsBare, IsAtLevel, StopsBefore, OneReading, ContinuesNothing, ContinuesInit, ContinuesDelay, ContinuesExpression}
 use Rattle.sig_tree.proofs.SettledFunctions.{◌>>=◌, Settles, settles_now, settles_next, settles_bind, settles_once}
 use Rattle.sig_tree.proofs.ListsThatStop.{stops_smaller, one_by_reader}
 use Rattle.sig_tree.proofs.Operators.{Infix, OfTwo, OfCell, OfDelay, infix_terminal, infix_level, infix_of, infix_is, infix_found, infix_stands, no_infix, Tighter, not_tighter, tighter_grows, continues_tighter, tighter_continues, two_levels, one_level, operand_continues}

@@ -26,4 +26,4 @@ pub use meaning::{
 };
 pub use process::{Body, Group, Item, Process, Program, Right, RunOn};
 pub use steps::{equations_step, expressions_step, traces_step};
-pub use well_formed::one_offence;
+pub use well_formed::{one_offence, some_offence};

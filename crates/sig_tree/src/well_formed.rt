@@ -1,6 +1,6 @@
 //! What holds of the rules on programs.
 
-ghost use Rattle.std.specs.Prelude.{◌≡◌, List};
+ghost use Rattle.std.specs.Prelude.{◌≡◌, ◌⊎◌, List};
 ghost use Rattle.sig_tree.specs.Syntax.{ProcessModel};
 ghost use Rattle.sig_tree.specs.Candidates.{Offence};
 ghost use Rattle.sig_tree.specs.WellFormed.{IsWellFormed, IsFirstOffence};
@@ -9,4 +9,9 @@ ghost use Rattle.sig_tree.specs.WellFormed.{IsWellFormed, IsFirstOffence};
 pub fn one_offence()
     ensures one { (program : List ProcessModel) (a b : Offence) → IsFirstOffence program a → IsFirstOffence program b → a ≡ b }
     ensures apart { (program : List ProcessModel) (a : Offence) → IsWellFormed program → IsFirstOffence program a → ⊥ }
+{}
+
+/// A law: every program is well formed, or has a first offence.
+pub fn some_offence()
+    ensures { (program : List ProcessModel) → IsWellFormed program ⊎ ((offence : Offence) × IsFirstOffence program offence) }
 {}

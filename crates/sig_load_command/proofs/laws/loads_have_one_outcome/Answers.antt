@@ -1,5 +1,8 @@
-use Rattle.sig_load_command.proofs.{one_load_outcome, some_outcome}
+use Rattle.sig_load_command.proofs.{any_outcome, one_load_outcome, some_outcome}
 use Rattle.sig_load_command.proofs.laws.loads_have_one_outcome.Goals as goal
+
+pub returns-clause-every : goal.returns-clause-every
+returns-clause-every c = any_outcome c.programs_have_a_verdict.ensures
 
 pub returns-clause-some : goal.returns-clause-some
 returns-clause-some c = some_outcome
