@@ -1,5 +1,5 @@
 -- An actor for which no event changes anything rests as long as its own state, its link and the word stay.
-use Rattle.sig_core.proofs.Common.{◌≡◌, ◌<◌, ◌⊎◌, ◌++◌, ◌∙◌, inl, inr, ℕ, ℤ, Bool, true, false, cond, List, [], ◌∷◌, length, set, refl, sym, ap, subst, arith, None, Option, Some, nat_lt, slice_get, Place, left_at, link_at, link_of, Actor, code_of, ended_at, guard_holds, moved_on, next_place, ModelCore, Given, acted, items_on, looked, stepped, take_first, turned, with_actor, with_items, word_before, Faults, Gives, Outcome, outcome, AtLimit, Commits, Fails, Goes, Puts, Stopped, Takes, Turn, turn, turn_at, turn_by, turn_of_op, turn_with, Act, Look, Instruction, instructions_of, operations_in, IsAccepted, PlanView, numbers_of, Step, StepKind, Do, Send, Receive, Report, Collect, Commit, Op, LinkInfo, plan_operations, one_reader, one_writer, step_instruction, step_coded, same_Some, contains_at, set_here}
+use Rattle.sig_core.proofs.Common.{◌≡◌, ◌<◌, ◌++◌, ◌∙◌, ℕ, ℤ, Bool, true, false, cond, List, [], ◌∷◌, length, set, refl, sym, ap, arith, None, Option, Some, nat_lt, slice_get, Place, left_at, link_at, link_of, Actor, code_of, ended_at, guard_holds, moved_on, next_place, ModelCore, Given, acted, items_on, looked, stepped, take_first, turned, with_actor, with_items, word_before, Faults, Gives, Outcome, outcome, AtLimit, Commits, Fails, Goes, Puts, Stopped, Takes, Turn, turn, turn_at, turn_by, turn_of_op, turn_with, Act, Look, IsAccepted, PlanView, Step, StepKind, Do, Send, Receive, Report, Collect, Commit, Op, same_Some, set_here}
 use Rattle.sig_core.proofs.WhatIsLeft.{Falls, end_falls}
 use Rattle.sig_core.proofs.ActorTurns.{IsTurnOf, turn_is}
 
@@ -51,37 +51,6 @@ module _ (given : Given) (k : ℕ) (a : Actor) where
     by : (b : Bool) → UsesLink named (cond b Stopped (cond (nat_lt given.limit a.instant) AtLimit (turn_at plan given.flows (code_of plan k) a (slice_get (code_of plan k).steps a.step))))
     by true = tt
     by false = going (nat_lt given.limit a.instant)
-
--- an actor whose next step names a link has one of its ends
-module _ (plan : PlanView) (accepted : IsAccepted plan) (k number : ℕ) (step : Step) (at : slice_get (code_of plan k).steps number ≡ Some step)
-    (j : ℕ) (info : LinkInfo) (at_j : slice_get plan.links j ≡ Some info) where
-  at_parts : slice_get accepted.parts.links j ≡ Some info
-  at_parts = subst (λ (ls : List LinkInfo). slice_get ls j ≡ Some info) (sym accepted.links) at_j
-
-  abbrev all : List Instruction
-  all = instructions_of (operations_in plan.store.nodes plan.ops) (numbers_of plan.order) accepted.parts k
-
-  writes : (step.kind ≡ Send j) ⊎ (step.kind ≡ Report j) → k ≡ info.writer
-  writes kind =
-      let (i, there, done) = step_instruction plan accepted k (code_of plan k) (step_coded plan k number step at) number step at in
-      one_writer plan.kernel accepted.valid plan.clocks.conditions (operations_in plan.store.nodes plan.ops) (plan_operations plan accepted) accepted.parts accepted.split (numbers_of plan.order) k j info at_parts i
-      (contains_at all number i there) (elim kind [ inl is ↦ inl (sym done.kind ∙ is) | inr is ↦ inr (sym done.kind ∙ is) ])
-
-  reads : (step.kind ≡ Receive j) ⊎ (step.kind ≡ Collect j) → k ≡ info.reader
-  reads kind =
-      let (i, there, done) = step_instruction plan accepted k (code_of plan k) (step_coded plan k number step at) number step at in
-      one_reader plan.kernel accepted.valid plan.clocks.conditions (operations_in plan.store.nodes plan.ops) (plan_operations plan accepted) accepted.parts accepted.split (numbers_of plan.order) k j info at_parts i
-      (contains_at all number i there) (elim kind [ inl is ↦ inl (sym done.kind ∙ is) | inr is ↦ inr (sym done.kind ∙ is) ])
-
-  pub has_end : link_of step.kind ≡ Some j → (k ≡ info.writer) ⊎ (k ≡ info.reader)
-  has_end = by step.kind refl where
-    by : (kind : StepKind) → step.kind ≡ kind → link_of kind ≡ Some j → (k ≡ info.writer) ⊎ (k ≡ info.reader)
-    by (Do o) is names = absurd (let e : None ≡ Some j = names in cc)
-    by (Send l) is names = inl (writes (inl (is ∙ ap (λ n. Send n) (same_Some l j names))))
-    by (Report l) is names = inl (writes (inr (is ∙ ap (λ n. Report n) (same_Some l j names))))
-    by (Receive l) is names = inr (reads (inl (is ∙ ap (λ n. Receive n) (same_Some l j names))))
-    by (Collect l) is names = inr (reads (inr (is ∙ ap (λ n. Collect n) (same_Some l j names))))
-    by Commit is names = absurd (let e : None ≡ Some j = names in cc)
 
 -- an actor rests in one state as in another one
 module _ (given : Given) (accepted : IsAccepted given.plan) (i : ℕ) (a : Actor) (inside : a.step < length (code_of given.plan i).steps) (m n : ModelCore)

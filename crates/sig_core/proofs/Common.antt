@@ -28,18 +28,15 @@ pub use Rattle.sig_step.specs.States.{last_reaction}
 pub use Rattle.sig_step.specs.declared.answer.Acted.{Acted}
 pub use Rattle.sig_step.specs.declared.answer.Acted.TheVariants.{AtLimit as AtTheLimit, Done, Empty, Failed, Full, Stopped as HasStopped}
 pub use Rattle.sig_step.specs.declared.state.ClusterState.{ClusterState}
-pub use Rattle.sig_step.proofs.Common.{Acts, Asked, DoesStep, DoesSteps, IsSameAndQuiet, IsStateOf, Nothing, Popped, Queues, QueuesGoOn, TookPrefix, actor_of, err_from_is_err_and, get_set_other, instant_of, length-map, longest_lines, place_of, same_Some, slice_get_read, to_z-of_z}
+pub use Rattle.sig_step.proofs.Common.{Acts, Asked, IsStateOf, Nothing, Popped, Queues, QueuesGoOn, TookPrefix, actor_of, err_from_is_err_and, get_set_other, instant_of, length-map, longest_lines, place_of, same_Some, slice_get_read, to_z-of_z}
 pub use Rattle.sig_core.specs.Cores.{Happened, IsActorState, IsCore, IsReached, IsSameRun, IsWord, IsWordOf, Keeps, LeavesLess, Shows, TellsChange, TookMore, given_of, left_at, left_from, left_in, one_to_end}
 pub use Rattle.sig_core.specs.Finishing.{HasEnded, IsEndOf, IsStill, LeadsTo, LeadsWithin, Led, TookBehind, TookRest, after_of, instants_by, instants_of}
 pub use Rattle.sig_core.specs.Lists.{AreEmpty, queue_in, queues_of}
 pub use Rattle.sig_core.specs.Schedules.{AreBounded, BeginsTheText, GoesOn, HasTheEnd, HoldsOf, InEachRun, KeepsToTheReference, RecordsNoneBefore, run_of}
 pub use Rattle.sig_core.specs.Telling.{length_in}
-pub use Rattle.sig_core.specs.Watching.{ActsUnder, IsNoted, IsPassed, IsQuiet, IsSameWatch, IsWatchEmpty, IsWatchFull, IsWatchOf, held_by, lesser_link, untold}
 pub use Rattle.sig_core.specs.declared.lists.Lists.{Lists}
 pub use Rattle.sig_core.specs.declared.state.Core.{Core}
-pub use Rattle.sig_core.specs.declared.watching.Watch.{Watch}
 pub use Rattle.sig_core.specs.inner.Acting.{CommitsAs, CommitsBy, IsStepped, TakesTurnAt, changes}
 pub use Rattle.sig_core.specs.inner.First.{AllFirst, IsFirst, actor_in}
-pub use Rattle.sig_core.specs.inner.GoingOn.{DoesTurn, DoesTurns, IsStepBy, KeepsBelow, KeepsWord, StepsOn, TakesTurns, next_of}
 pub use Rattle.sig_core.specs.inner.Making.{AreOpened, IsOpened}
-pub use Rattle.sig_core.specs.inner.Resting.{IsLow, RestBelow, Rests, SeesNothing, Serves, Touches, left_behind, link_at, link_by, link_of, next_link}
+pub use Rattle.sig_core.specs.inner.Resting.{RestBelow, Rests, SeesNothing, Serves, Touches, left_behind, link_at, link_by, link_of, next_link}

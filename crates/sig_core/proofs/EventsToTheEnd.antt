@@ -1,5 +1,5 @@
 -- Events one after another, to the end of a run.
-use Rattle.sig_core.proofs.Common.{◌≡◌, ◌++◌, ◌∙◌, ℕ, Bool, true, false, List, [], ◌∷◌, sym, ap, subst, append_assoc, fold, append-nil, bounded_behind, AllFirst, Happened, IsReached, IsSameRun, Shows, TellsChange, TookMore, given_of, LeadsTo, LeadsWithin, RestBelow, SeesNothing, after_of, Core, IsAccepted, outputs_of, seen_lines, Kernel, ModelCore, Given, after, opening, reactions_text, stepped, Reaction, Event, Act, fold-append, flat_map-append}
+use Rattle.sig_core.proofs.Common.{◌≡◌, ◌++◌, ◌∙◌, ℕ, Bool, true, false, List, [], ◌∷◌, sym, ap, subst, append_assoc, fold, bounded_behind, AllFirst, Happened, IsReached, IsSameRun, Shows, TellsChange, TookMore, given_of, LeadsTo, LeadsWithin, RestBelow, SeesNothing, after_of, Core, IsAccepted, outputs_of, seen_lines, Kernel, ModelCore, Given, after, opening, reactions_text, stepped, Reaction, Event, Act, fold-append, flat_map-append}
 use Rattle.sig_core.proofs.Firsts.{ComesFirst, act_first, first_behind, first_change}
 
 pub text_append : (kernel : Kernel) (xs ys : List Reaction) → reactions_text kernel (xs ++ ys) ≡ reactions_text kernel xs ++ reactions_text kernel ys
@@ -62,13 +62,6 @@ leads_then {S} took also join old mid new first middle last same one two m shows
     }
 
 -- nothing happened
-pub leads_nowhere : {S : Type 0} (took : S → List ℕ → S → Type 0) (old : Core) (first : S) → took first [] first → LeadsTo took old old first first
-leads_nowhere took old first nothing m shows = record {
-  events = [];
-  first = tt;
-  shows = shows;
-  text = record { more = []; committed = sym (append-nil m.committed); taken = nothing };
-}
 
 -- a core that was reached leads to one that is
 pub leads_reached : {S : Type 0} (took : S → List ℕ → S → Type 0) (old new : Core) (first last : S) → IsSameRun old new → LeadsTo took old new first last → IsReached old → IsReached new

@@ -1,26 +1,13 @@
 -- Events of a core that happened.
-use Rattle.sig_core.proofs.Common.{◌≡◌, ◌<◌, ◌≤◌, ◌++◌, ◌∙◌, ℕ, Bool, List, [], ◌∷◌, length, map, false, refl, sym, ap, subst, arith, None, OnErr, OnOk, Result, Ok, Err, Some, slice_get, slice_index_or, append-nil, length-map, slice_get_past, CommitsAs, CommitsBy, IsStepped, Happened, IsCore, IsReached, IsSameRun, Keeps, Shows, TellsChange, TookMore, given_of, Core, outputs_of, seen_lines, Kernel, Actor, ModelCore, Given, acted, stepped, Event, Act, actor_of, last_reaction, Acted, Done, Empty, Full, Failed, ClusterState, TookPrefix, WriteFault, slice_get-get_or}
+use Rattle.sig_core.proofs.Common.{◌≡◌, ◌<◌, ◌≤◌, ◌++◌, ◌∙◌, ℕ, Bool, List, [], ◌∷◌, length, map, false, sym, ap, subst, arith, None, OnErr, OnOk, Result, Ok, Err, Some, slice_get, slice_index_or, append-nil, length-map, slice_get_past, CommitsBy, IsStepped, Happened, IsCore, IsReached, IsSameRun, Keeps, Shows, TellsChange, TookMore, given_of, Core, outputs_of, seen_lines, Kernel, Actor, ModelCore, Given, acted, stepped, Event, Act, actor_of, last_reaction, ClusterState, TookPrefix, WriteFault, slice_get-get_or}
 use Rattle.sig_core.proofs.EventsToTheEnd.{event_reached}
-use Rattle.sig_step.specs.declared.answer.Acted.TheVariants.{Commit, AtLimit, Stopped}
-
--- a step that answers something else than a commit commits nothing
-pub commits_nothing : (k : ℕ) (new : Core) (acted : Acted) (m n : ModelCore) → (acted ≡ Commit → ⊥) → CommitsAs k new acted m n → n.committed ≡ m.committed
-commits_nothing k new Done m n other is = is
-commits_nothing k new Commit m n other is = absurd (other refl)
-commits_nothing k new (Empty j) m n other is = is
-commits_nothing k new (Full j) m n other is = is
-commits_nothing k new (Failed place) m n other is = is
-commits_nothing k new AtLimit m n other is = is
-commits_nothing k new Stopped m n other is = is
+use Rattle.sig_step.specs.declared.answer.Acted.TheVariants.{Commit}
 
 module _ {S : Type 0} (took : S → List ℕ → S → Type 0) (old new : Core) where
   -- an event that commits nothing
   pub kept_happened : (e : Event) (sink : S) → took sink [] sink → Keeps e old new → Happened took e old new sink sink
   kept_happened e sink nothing keeps m shows =
       ((keeps m shows).0, record { more = []; committed = (keeps m shows).1 ∙ sym (append-nil m.committed); taken = nothing })
-
-  pub step_kept : (k : ℕ) (acted : Acted) → (acted ≡ Commit → ⊥) → IsStepped (Act k) old new → CommitsBy k acted old new → Keeps (Act k) old new
-  step_kept k acted other steps commits m shows = (steps m shows, commits_nothing k new acted m (stepped (given_of old) m (Act k)) other (commits m shows))
 
   -- an event that commits a reaction, whose text was taken
   pub commit_happened : (k : ℕ) (s : ClusterState) → slice_get new.states.items k ≡ Some s → (kernel : Kernel) → kernel ≡ new.plan.now.kernel → kernel ≡ old.plan.now.kernel

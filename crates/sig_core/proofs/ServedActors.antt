@@ -1,37 +1,12 @@
 -- Actors of a core that rest.
-use Rattle.sig_core.proofs.Common.{◌≡◌, ◌≢◌, ◌<◌, ◌≤◌, ◌-◌, ◌+◌, ◌*◌, ◌⊎◌, ◌∙◌, inl, inr, false, ℕ, zero, suc, List, [], ◌∷◌, length, map, refl, sym, ap, subst, arith, None, Option, Some, min, slice_get, mul-le-mul_right, suc-mul, Happened, IsCore, IsReached, IsSameRun, IsWord, Shows, TellsChange, given_of, left_in, IsStill, after_of, queues_of, IsLow, KeepsBelow, RestBelow, Rests, SeesNothing, Serves, Touches, left_behind, link_at, link_by, link_of, next_link, Core, at_most_or, Actor, code_of, ModelCore, Given, acted, items_on, looked, stepped, Act, Look, NamesWithin, IsAccepted, PlanView, Step, StepKind, Do, Send, Receive, Report, Collect, Commit, LinkInfo, step_names, step_coded, LinkQueue, actor_of, ClusterState, same_Some, get_map, some_at}
-use Rattle.sig_core.proofs.ActorsAtRest.{act_rests, has_end, look_rests}
+use Rattle.sig_core.proofs.Common.{◌≡◌, ◌≢◌, ◌<◌, ◌≤◌, ◌-◌, ◌+◌, ◌*◌, ◌∙◌, inl, inr, false, ℕ, zero, suc, List, [], ◌∷◌, length, map, refl, sym, ap, subst, arith, None, Option, Some, slice_get, mul-le-mul_right, suc-mul, Happened, IsCore, IsReached, IsSameRun, IsWord, Shows, TellsChange, given_of, left_in, IsStill, after_of, queues_of, RestBelow, Rests, SeesNothing, Serves, Touches, left_behind, link_at, link_by, next_link, Core, at_most_or, Actor, code_of, ModelCore, Given, acted, items_on, looked, stepped, Act, Look, IsAccepted, LinkQueue, actor_of, ClusterState, get_map}
+use Rattle.sig_core.proofs.ActorsAtRest.{act_rests, look_rests}
 use Rattle.sig_core.proofs.FailureWord.{word_once}
 
 get_map_none : {X Y : Type 0} (f : X → Y) (xs : List X) (k : ℕ) → slice_get xs k ≡ None → slice_get (map f xs) k ≡ None
 get_map_none f [] k none = refl
 get_map_none f (x ∷ xs) zero none = absurd (let e : Some x ≡ None = none in cc)
 get_map_none f (x ∷ xs) (suc k) none = get_map_none f xs k none
-
--- a step that names a link names one that is there
-names_there : (plan : PlanView) → IsAccepted plan → (k number : ℕ) (step : Step) → slice_get (code_of plan k).steps number ≡ Some step → (j : ℕ) → link_of step.kind ≡ Some j → j < length plan.links
-names_there plan accepted k number step at j names = by step.kind (step_names plan accepted k (code_of plan k) (step_coded plan k number step at) number step at) names where
-  by : (kind : StepKind) → NamesWithin (length plan.ops) (length plan.links) kind → link_of kind ≡ Some j → j < length plan.links
-  by (Do o) named is = absurd (let e : None ≡ Some j = is in cc)
-  by (Send l) named is = subst (λ n. n < length plan.links) (same_Some l j is) named
-  by (Receive l) named is = subst (λ n. n < length plan.links) (same_Some l j is) named
-  by (Report l) named is = subst (λ n. n < length plan.links) (same_Some l j is) named
-  by (Collect l) named is = subst (λ n. n < length plan.links) (same_Some l j is) named
-  by Commit named is = absurd (let e : None ≡ Some j = is in cc)
-
--- an actor has one of the ends of the link that its next step uses
-pub at_end : (c : Core) → IsAccepted c.plan.now → (i j : ℕ) → next_link c i ≡ Some j → (info : LinkInfo) × (slice_get c.plan.now.links j ≡ Some info) × ((i ≡ info.writer) ⊎ (i ≡ info.reader))
-at_end c accepted i j names = by (slice_get c.states.items i) names where
-  at_step : (number : ℕ) (step : Option Step) → slice_get (code_of c.plan.now i).steps number ≡ step → link_at step ≡ Some j
-      → (info : LinkInfo) × (slice_get c.plan.now.links j ≡ Some info) × ((i ≡ info.writer) ⊎ (i ≡ info.reader))
-  at_step number None at there = absurd (let e : None ≡ Some j = there in cc)
-  at_step number (Some step) at there =
-      let (info, found) = some_at c.plan.now.links j (names_there c.plan.now accepted i number step at j there) in
-      (info, found, has_end c.plan.now accepted i number step at j info found there)
-
-  by : (o : Option ClusterState) → link_by c.plan.now i o ≡ Some j → (info : LinkInfo) × (slice_get c.plan.now.links j ≡ Some info) × ((i ≡ info.writer) ⊎ (i ≡ info.reader))
-  by None there = absurd (let e : None ≡ Some j = there in cc)
-  by (Some s) there = at_step s.step (slice_get (code_of c.plan.now i).steps s.step) refl there
 
 -- An actor that rests in a state of one core rests in each state of another one, where its own state, its link and the word
 -- are the same.
@@ -91,11 +66,6 @@ pub rests_on : (old new : Core) → IsCore old → IsSameRun old new → IsAccep
 rests_on old new is same accepted m shows k link touches word i other apart before n shows_n =
     still_on old new is same accepted m shows word i (touches.states i other) (λ j names. touches.links j (λ here. apart j here names)) n shows_n before
 
--- so it does where the link that its next step uses stays as it is
-pub rests_where : (old new : Core) → IsCore old → IsSameRun old new → IsAccepted old.plan.now → (m : ModelCore) → Shows m old → new.word ≡ old.word
-    → (i : ℕ) → slice_get new.states.items i ≡ slice_get old.states.items i → ((j : ℕ) → next_link old i ≡ Some j → queues_of new.lists j ≡ queues_of old.lists j) → IsStill old m i → Rests new i
-rests_where old new is same accepted m shows word i own link before n shows_n = still_on old new is same accepted m shows word i own link n shows_n before
-
 suc-mul' : (a n : ℕ) → (a + 1) * n ≡ a * n + n
 suc-mul' a n = ap (λ x. x * n) (let e : a + 1 ≡ suc a = omega arith in e) ∙ suc-mul a n
 
@@ -137,26 +107,6 @@ module _ {S : Type 0} (took : S → List ℕ → S → Type 0) (old new : Core) 
     less = left_falls_by old new k k count less;
   }
 
-  -- it did a step
-  pub stepped_serves : (low : ℕ) → IsLow old k low → Touches k (next_link old k) old new → new.word ≡ old.word → left_in new < left_in old → Serves k old new low
-  stepped_serves low is_low touches word less = record {
-    within = (let c = count in let own = is_low.own in omega (arith, c, there, own));
-    rest = λ i lt.
-        let own = is_low.own in
-        rests_on old new is_old same accepted m shows k (next_link old k) touches word i (λ e. omega (arith, e, lt, own)) (λ j names names_i. is_low.apart i lt j names names_i)
-        (rest i (omega (arith, lt, own)) m shows);
-    less = left_falls_by old new k low count less;
-  }
-
-  -- it did a step for which no actor below a number waits
-  pub kept_serves : (low : ℕ) → low ≤ k → (link : Option ℕ) → Touches k link old new → KeepsBelow low old new → new.word ≡ old.word → left_in new < left_in old → Serves k old new low
-  kept_serves low own link touches keeps word less = record {
-    within = (let c = count in omega (arith, c, there, own));
-    rest = λ i lt.
-        rests_where old new is_old same accepted m shows word i (touches.states i (λ e. omega (arith, e, lt, own))) (keeps i lt) (rest i (omega (arith, lt, own)) m shows);
-    less = left_falls_by old new k low count less;
-  }
-
   -- it has no event that changes something
   module _ (looks : SeesNothing k old) (tells : TellsChange old (Act k) false) (before after_it : S) (happened : Happened took (Act k) old new before after_it) where
     shows_new : Shows m new
@@ -180,51 +130,3 @@ module _ {S : Type 0} (took : S → List ℕ → S → Type 0) (old new : Core) 
           let rows : left_in new * (length new.states.items + 1) ≡ left_in old * (length old.states.items + 1) = ap (λ n. n * (length new.states.items + 1)) stays ∙ ap (λ n. left_in old * (n + 1)) c in
           omega (arith, rows, c, there);
     }
-
--- ---- the least of an actor and the one that waits at the other end of its link
-
-pub low_alone : (c : Core) (k : ℕ) → next_link c k ≡ None → IsLow c k k
-low_alone c k none = record { own = omega arith; apart = λ i lt j names names_i. let e : None ≡ Some j = sym none ∙ names in cc }
-
-module _ (c : Core) (accepted : IsAccepted c.plan.now) (k j : ℕ) (names : next_link c k ≡ Some j) (other : ℕ)
-    (least : (link : LinkInfo) → slice_get c.plan.now.links j ≡ Some link → other ≡ min link.writer link.reader) where
-  -- the actors of the link are not below the lesser one of its ends
-  not_below : (i : ℕ) → next_link c i ≡ Some j → other ≤ i
-  not_below i names_i =
-      let (info, there, end) = at_end c accepted i j names_i in
-      let is = least info there in
-      elim end [ inl same ↦ grind (arith, is, same) | inr same ↦ grind (arith, is, same) ]
-
-  -- one below the actor k is the one at the other end
-  is_other : (i : ℕ) → i < k → next_link c i ≡ Some j → i ≡ other
-  is_other i lt names_i =
-      let (info, there, end) = at_end c accepted i j names_i in
-      let (mine, there_k, end_k) = at_end c accepted k j names in
-      by info (least info there) end (subst (λ (x : LinkInfo). (k ≡ x.writer) ⊎ (k ≡ x.reader)) (same_Some mine info (sym there_k ∙ there)) end_k) where
-        by : (x : LinkInfo) → other ≡ min x.writer x.reader → (i ≡ x.writer) ⊎ (i ≡ x.reader) → (k ≡ x.writer) ⊎ (k ≡ x.reader) → i ≡ other
-        by x is (inl same) (inl same_k) = absurd (omega (arith, lt, same, same_k))
-        by x is (inl same) (inr same_k) = grind (arith, is, lt, same, same_k)
-        by x is (inr same) (inl same_k) = grind (arith, is, lt, same, same_k)
-        by x is (inr same) (inr same_k) = absurd (omega (arith, lt, same, same_k))
-
-  here : (l : ℕ) → next_link c k ≡ Some l → l ≡ j
-  here l names_l = same_Some l j (sym names_l ∙ names)
-
-  -- it is below, and waits there
-  pub low_other : other < k → IsLow c k other
-  low_other lt = record {
-    own = omega (arith, lt);
-    apart = λ i below l names_l names_i.
-        let least_i = not_below i (names_i ∙ ap (λ n. Some n) (here l names_l)) in
-        omega (arith, below, least_i);
-  }
-
-  -- it is not below, or does not wait there
-  pub low_own : (other < k → next_link c other ≡ Some j → ⊥) → IsLow c k k
-  low_own apart = record {
-    own = omega arith;
-    apart = λ i below l names_l names_i.
-        let names_j : next_link c i ≡ Some j = names_i ∙ ap (λ n. Some n) (here l names_l) in
-        let same = is_other i below names_j in
-        apart (omega (arith, same, below)) (subst (λ n. next_link c n ≡ Some j) same names_j);
-  }

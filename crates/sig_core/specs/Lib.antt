@@ -4,5 +4,4 @@ pub mod Finishing
 pub mod Lists
 pub mod Schedules
 pub mod Telling
-pub mod Watching
 pub mod inner

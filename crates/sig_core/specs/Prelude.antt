@@ -11,7 +11,6 @@ pub use Rattle.sig_schedules.specs.Changes.{AllChange, steps_in}
 pub use Rattle.sig_schedules.specs.Endings.{HasEnd, IsNotBefore}
 pub use Rattle.sig_schedules.specs.Prelude.{Actor, AreFlowsFor, Core, Do, Ended, Event, Given, IsAccepted, IsEnabled, IsEnd, IsFinished, IsOnReference, IsPrefixOf, IsReference, OpId, Place, PlanView, Step, Trace, after, cause_of, code_of, opening, output_text, reactions_text, stepped}
 pub use Rattle.sig_step.specs.Acting.{TakesTurn}
-pub use Rattle.sig_step.specs.GoingOn.{ActsUntil}
 pub use Rattle.sig_step.specs.LinkEnds.{AllStay, LinkQueue, OthersStay, Past, Queues}
 pub use Rattle.sig_step.specs.Moving.{IsSameActor}
 pub use Rattle.sig_step.specs.Prelude.{Cause, Collect, Kernel, Reaction, Receive, Report, Rose, Send, StepKind, TookPrefix, opening_actor, outputs_of, packed, turn}

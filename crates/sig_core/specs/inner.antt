@@ -1,6 +1,5 @@
 -- Definitions that no other crate cites.
 pub mod Acting
 pub mod First
-pub mod GoingOn
 pub mod Making
 pub mod Resting

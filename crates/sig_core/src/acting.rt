@@ -4,7 +4,6 @@ ghost use Rattle.std.specs.Prelude.{◌≡◌, ◌<◌, ◌≤◌};
 ghost use Rattle.sig_core.specs.Prelude.{IfOk, OnErr, OnOk, length, true, Act, Rose, TookPrefix};
 ghost use Rattle.sig_core.specs.inner.Acting.{CommitsBy, IsStepped, TakesTurnAt, changes};
 ghost use Rattle.sig_core.specs.Cores.{Happened, IsCore, IsSameRun, LeavesLess, TellsChange};
-ghost use Rattle.sig_core.specs.inner.Resting.{Touches, next_link};
 
 use crate::plans::plans_are_accepted;
 use crate::state::Core;
@@ -26,7 +25,6 @@ impl<'a> Core<'a> {
         ensures answer { IfOk result (TellsChange self.old (Act k)) }
         ensures changed { OnErr result (TellsChange self.old (Act k) true) }
         ensures left { IfOk result (LeavesLess self.old self.new) }
-        ensures touches { Touches k (next_link self.old k) self.old self.new }
         ensures failed { OnErr result (Rose (S.faults sink.old) (S.faults sink.new)) }
         ensures faults_stay { S.faults sink.old ≤ S.faults sink.new }
     {
@@ -56,7 +54,6 @@ impl<'a> Core<'a> {
         ensures commits { CommitsBy k result self.old self.new }
         ensures answer { TellsChange self.old (Act k) (changes result) }
         ensures left { LeavesLess self.old self.new (changes result) }
-        ensures touches { Touches k (next_link self.old k) self.old self.new }
     {
         plans_are_accepted(self.plan);
         let acted = self.turn::<L>(k, blank);

@@ -6,7 +6,6 @@ mod answer;
 mod cause;
 mod event;
 mod finish;
-mod going_on;
 mod laws;
 mod lists;
 mod looking;
@@ -15,9 +14,6 @@ mod plans;
 mod serve;
 mod state;
 mod telling;
-mod waiting;
-mod watched;
-mod watching;
 
 pub use answer::{ActorState, CoreAnswer};
 pub use laws::{cores_keep_to_the_plan, runs_keep_to_the_plan};

@@ -1,13 +1,12 @@
 //! Links in memory.
 
-ghost use Rattle.std.specs.Prelude.{◌≡◌, IfOk};
+ghost use Rattle.std.specs.Prelude.{IfOk};
 ghost use Rattle.sig_core.specs.Lists.{AreEmpty};
 
 use sig_base::Full;
 use sig_step::Ends;
 use std::alloc::{AllocError, Global};
 use std::collections::VecDeque;
-use std::mem;
 
 /// The items of each link. The room of a queue is the capacity of its link.
 #[derive(Drop)]
@@ -25,16 +24,6 @@ impl Lists {
             queues.push(VecDeque::with_capacity(alloc, capacity)?)?;
         }
         Ok(Lists { queues })
-    }
-
-    /// Hands out the links, and keeps none.
-    pub(crate) fn take(&mut self) -> Lists
-        ensures { result ≡ self.old }
-    {
-        let none = Lists {
-            queues: Vec::new(*self.queues.allocator()),
-        };
-        mem::replace(self, none)
     }
 }
 

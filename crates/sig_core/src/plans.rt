@@ -1,11 +1,10 @@
 //! The parts of a plan.
 
-ghost use Rattle.std.specs.Prelude.{◌≡◌, ◌<◌};
-ghost use Rattle.sig_core.specs.Prelude.{length, slice_get, Some, code_of, outputs_of, IsAccepted};
-ghost use Rattle.sig_core.specs.inner.Resting.{link_at, link_of};
+ghost use Rattle.std.specs.Prelude.{◌≡◌};
+ghost use Rattle.sig_core.specs.Prelude.{length, outputs_of, IsAccepted};
 
 use sig_base::{OpId, Signal};
-use sig_plan::{LinkInfo, Op, Plan, StepKind};
+use sig_plan::{Op, Plan};
 
 /// A law: each plan is an accepted one.
 #[inline(always)]
@@ -42,51 +41,6 @@ pub(crate) fn links_in(plan: &Plan) -> usize
     ensures { result ≡ length plan.now.links }
 {
     plan.links.len()
-}
-
-/// The links of a plan.
-#[inline(always)]
-pub(crate) fn links_of(plan: &Plan) -> &[LinkInfo]
-    ensures { result.now ≡ plan.now.links }
-{
-    plan.links.as_slice()
-}
-
-/// The link that a step of an actor uses, where there is such a step, and it uses one.
-#[inline(always)]
-pub(crate) fn link_at(plan: &Plan, actor: u32, step: u32) -> Option<u32>
-    ensures { result ≡ link_at (slice_get (code_of plan.now actor).steps step) }
-{
-    match plan.codes.get(actor as usize) {
-        Some(code) => match code.steps().get(step as usize) {
-            Some(step) => link_of(step.kind),
-            None => None,
-        },
-        None => None,
-    }
-}
-
-/// What a step of an actor is for.
-#[inline(always)]
-pub(crate) fn step_at(plan: &Plan, actor: u32, step: u32) -> StepKind
-    requires actor { actor < length plan.now.codes }
-    requires step { step < length (code_of plan.now actor).steps }
-    ensures { link_of result ≡ link_at (slice_get (code_of plan.now actor).steps step) }
-{
-    plan.codes[actor as usize].steps()[step as usize].kind
-}
-
-/// The link that a step uses, where it uses one.
-#[inline(always)]
-pub(crate) fn link_of(kind: StepKind) -> Option<u32>
-    ensures { result ≡ link_of kind }
-{
-    match kind {
-        StepKind::Do(_) | StepKind::Commit => None,
-        StepKind::Send(j) | StepKind::Receive(j) | StepKind::Report(j) | StepKind::Collect(j) => {
-            Some(j)
-        }
-    }
 }
 
 /// The outputs of a plan, in order.

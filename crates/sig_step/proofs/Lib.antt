@@ -5,8 +5,10 @@ pub mod WayInTheCode
 pub mod GuardLemmas
 pub mod MarkLemmas
 pub mod Passed
+pub mod OperationsInRows
 pub mod Several
 pub mod StateLemmas
+pub mod Stretches
 pub mod TakenItems
 pub mod TruthLemmas
 pub mod CallsByTurn
@@ -17,9 +19,11 @@ pub use CallsByTurn.*
 pub use GuardLemmas.*
 pub use OperationsOfActor.*
 pub use Passed.*
+pub use OperationsInRows.*
 pub use Several.*
 pub use StateAtOpening.*
 pub use StateLemmas.*
+pub use Stretches.*
 pub use TakenItems.*
 pub use WalkLemmas.*
 pub use WayInTheCode.*

@@ -1,5 +1,5 @@
 -- The state of an actor at the opening.
-use Rattle.sig_step.proofs.Common.{◌≡◌, ◌<◌, ◌≤◌, ◌+◌, ◌^◌, ◌∙◌, ℕ, zero, suc, ℤ, false, List, length, replicate, slice_get, None, Some, sym, ap, subst, arith, length-replicate, Registers, code_of, position_of, IsRunnable, PlanView, AreMarksAt, IsStateOf, ClusterState, Mark, same_Some, IsMachineOfActor, instant_of, seen_in}
+use Rattle.sig_step.proofs.Common.{◌≡◌, ◌<◌, ◌≤◌, ◌+◌, ◌^◌, ◌∙◌, ℕ, zero, suc, ℤ, false, List, length, replicate, slice_get, None, Some, sym, ap, subst, arith, length-replicate, Registers, code_of, position_of, IsRunnable, PlanView, AreMarksAt, AreRows, IsStateOf, ClusterState, Mark, same_Some, IsMachineOfActor, instant_of, seen_in}
 
 -- a guard that was not met yet
 abbrev pub unknown : Mark
@@ -25,8 +25,8 @@ none_known plan actor instant registers marks later is =
 pub opened : (plan : PlanView) (flows : List (List ℤ)) (s : ClusterState) → IsRunnable plan → s.actor < length plan.codes → s.limit + 1 < 2 ^ 32
     → s.step ≡ 0 → length (code_of plan s.actor).steps < 2 ^ 32 → s.pos ≡ position_of (slice_get (code_of plan s.actor).steps 0)
     → IsMachineOfActor plan s.actor flows s.values → instant_of s.values ≡ 1 → s.marks.items ≡ replicate (length (code_of plan s.actor).slots) unknown
-    → IsStateOf plan flows s
-opened plan flows s runnable actor limit first short position values opening marks =
+    → length s.rows.items ≡ length (code_of plan s.actor).steps → AreRows (code_of plan s.actor).steps s.rows.items → IsStateOf plan flows s
+opened plan flows s runnable actor limit first short position values opening marks row_count rows =
     let later : 1 ≤ instant_of s.values = omega (arith, opening) in
     record {
       actor = actor;
@@ -39,4 +39,6 @@ opened plan flows s runnable actor limit first short position values opening mar
       values = values;
       marks = subst (λ (n : ℕ). AreMarksAt plan s.actor (instant_of s.values) n (seen_in s.values) s.marks.items) (sym first)
           (none_known plan s.actor (instant_of s.values) (seen_in s.values) s.marks.items later marks);
+      row_count = row_count;
+      rows = rows;
     }

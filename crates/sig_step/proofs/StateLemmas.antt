@@ -19,6 +19,8 @@ may_with plan flows s runnable may v are same target value seen filled = record 
     values = are;
     marks = same_marks plan s.actor s.actor (instant_of s.values) (instant_of v) s.step s.step (with_signal target (Some value) (seen_in s.values)) (seen_in v)
         s.marks.items s.marks.items refl (sym same) refl (sym seen) refl (marks_filled plan s runnable may.state.marks target value filled);
+    row_count = may.state.row_count;
+    rows = may.state.rows;
   };
   runs = subst (λ (n : ℕ). n ≤ s.limit) (sym same) may.runs;
   met = λ step at. let (mark, marked, now) = may.met step at in (mark, marked, now ∙ sym same);
@@ -38,6 +40,8 @@ state_ended plan flows s state v same =
       position = state.position;
       values = state.values;
       marks = state.marks;
+      row_count = state.row_count;
+      rows = state.rows;
     })
 
 -- a signal that is there, where there is one

@@ -1,6 +1,6 @@
 -- What a call that does several steps of an actor leaves.
-use Rattle.std.specs.Prelude.{◌≡◌}
-use Rattle.sig_step.specs.Prelude.{ℕ, zero, suc, ℤ, List, Option, turn, PlanView}
+use Rattle.std.specs.Prelude.{◌≡◌, ◌≤◌}
+use Rattle.sig_step.specs.Prelude.{ℕ, zero, suc, ℤ, List, Option, turn, PlanView, instant_of}
 use Rattle.sig_step.specs.Acting.{Counts, CountsNone, Finds, TakesTurn}
 use Rattle.sig_step.specs.LinkEnds.{Past, Queues}
 use Rattle.sig_step.specs.Moving.{IsSameActor, StaysMet}
@@ -31,26 +31,15 @@ DoesSteps {E} past queues found_full found_empty same plan flows (suc n) old new
     × DoesSteps past queues found_full found_empty same plan flows n old mid before between count_before amid
     × DoesStep past queues found_full found_empty same plan flows Done mid new between after amid count_after
 
--- both are ends of the same links, and the later ones are quiet
-abbrev pub IsSameAndQuiet : {E : Type 0} → (E → E → Type 0) → (E → Type 0) → E → E → Type 0
-IsSameAndQuiet same quiet before after = same before after × quiet after
-
--- Steps one after another: all but the last are done, and this is what the last came to.
-pub record ActsOn {E : Type 0} (past : E → Option Past) (queues : E → Option Queues) (found_full found_empty : ℕ → E → E → Type 0) (same : E → E → Type 0) (plan : PlanView) (flows : List (List ℤ))
+-- Steps one after another, no more than one and so many: all but the last are done, the last begins in the instant of the first,
+-- and this is what it came to.
+pub record ActsOn {E : Type 0} (past : E → Option Past) (queues : E → Option Queues) (found_full found_empty : ℕ → E → E → Type 0) (same : E → E → Type 0) (plan : PlanView) (flows : List (List ℤ)) (more : ℕ)
     (acted : Acted) (old new : ClusterState) (before after : E) (count_before count_after : ℕ) : Type 0 where
   pub count : ℕ
+  pub few : count ≤ more
   pub mid : ClusterState
   pub between : E
   pub amid : ℕ
+  pub here : instant_of mid.values ≡ instant_of old.values
   pub done : DoesSteps past queues found_full found_empty same plan flows count old mid before between count_before amid
-  pub last : DoesStep past queues found_full found_empty same plan flows acted mid new between after amid count_after
-
--- The same, where all but the last leave ends that are quiet.
-pub record ActsUntil {E : Type 0} (past : E → Option Past) (queues : E → Option Queues) (found_full found_empty : ℕ → E → E → Type 0) (same : E → E → Type 0) (quiet : E → Type 0) (plan : PlanView)
-    (flows : List (List ℤ)) (acted : Acted) (old new : ClusterState) (before after : E) (count_before count_after : ℕ) : Type 0 where
-  pub count : ℕ
-  pub mid : ClusterState
-  pub between : E
-  pub amid : ℕ
-  pub done : DoesSteps past queues found_full found_empty (IsSameAndQuiet same quiet) plan flows count old mid before between count_before amid
   pub last : DoesStep past queues found_full found_empty same plan flows acted mid new between after amid count_after

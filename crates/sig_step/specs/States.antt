@@ -1,6 +1,6 @@
 -- What the state of an actor means, and when it is one of an actor of a plan.
 use Rattle.std.specs.Prelude.{◌≡◌, ◌<◌, ◌≤◌, ◌+◌, ◌^◌, ◌==◌, if◌then◌else◌}
-use Rattle.sig_step.specs.Prelude.{ℕ, ℤ, Bool, true, List, length, slice_get, Option, None, Some, Place, Kernel, Actor, Registers, code_of, position_of, slot_holds, truths_of, Faults, Gives, Outcome, outcome, Reaction, reaction_in, PlanView, Step, StepKind, Do, Send, Receive, Report, Collect, Commit, Cause, Limit, Op, IsMachineOfActor, actor_in, instant_of, last_in, seen_in}
+use Rattle.sig_step.specs.Prelude.{ℕ, ℤ, Bool, true, List, length, slice_get, Option, None, Some, Place, Kernel, Actor, Registers, code_of, position_of, slot_holds, truths_of, Faults, Gives, Outcome, outcome, Reaction, reaction_in, PlanView, Step, StepKind, Do, Send, Receive, Report, Collect, Commit, Cause, Limit, Op, OpId, IsMachineOfActor, actor_in, instant_of, last_in, seen_in}
 use Rattle.sig_step.specs.declared.state.ClusterState.{ClusterState}
 use Rattle.sig_step.specs.declared.state.Mark.{Mark}
 
@@ -41,6 +41,23 @@ pub record AreMarksAt (plan : PlanView) (actor instant next : ℕ) (registers : 
 abbrev pub AreMarks : PlanView → ClusterState → Type 0
 AreMarks plan s = AreMarksAt plan s.actor (instant_of s.values) s.step (seen_in s.values) s.marks.items
 
+-- a step does an operation, and has this slot
+pub record IsInRow (number : ℕ) (step : Step) : Type 0 where
+  pub operation : OpId
+  pub does : step.kind ≡ Do operation
+  pub of : step.slot ≡ number
+
+-- From a step on, up to another one that is not behind the last, all do operations and have the slot of the first.
+pub record IsRow (steps : List Step) (from to : ℕ) : Type 0 where
+  pub forth : from ≤ to
+  pub inside : to < length steps
+  pub each : (number : ℕ) (first step : Step) → from ≤ number → number < to → slice_get steps from ≡ Some first → slice_get steps number ≡ Some step
+      → IsInRow first.slot step
+
+-- these are ends of rows, by the steps at which they begin
+abbrev pub AreRows : List Step → List ℕ → Type 0
+AreRows steps rows = (from to : ℕ) → slice_get rows from ≡ Some to → IsRow steps from to
+
 -- A state is one of an actor of this plan, over these flows.
 pub record IsStateOf (plan : PlanView) (flows : List (List ℤ)) (s : ClusterState) : Type 0 where
   pub actor : s.actor < length plan.codes
@@ -52,6 +69,8 @@ pub record IsStateOf (plan : PlanView) (flows : List (List ℤ)) (s : ClusterSta
   pub position : s.pos ≡ position_of (slice_get (code_of plan s.actor).steps s.step)
   pub values : IsMachineOfActor plan s.actor flows s.values
   pub marks : AreMarks plan s
+  pub row_count : length s.rows.items ≡ length (code_of plan s.actor).steps
+  pub rows : AreRows (code_of plan s.actor).steps s.rows.items
 
 -- whether a guard holds, where that is known in this instant
 abbrev pub known_in : ℕ → Option Mark → Option Bool

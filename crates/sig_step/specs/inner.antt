@@ -1,2 +1,3 @@
 -- Definitions that no other crate cites.
+pub mod Following
 pub mod Passing

@@ -1,6 +1,6 @@
 //! The link ends of an actor.
 
-ghost use Rattle.std.specs.Prelude.{◌≡◌, ◌⊎◌, ℕ, List, Option, Contains, IfNone, IsSome, IsTrue, OnErr};
+ghost use Rattle.std.specs.Prelude.{◌≡◌, ◌⊎◌, ℕ, List, Option, Contains, IfNone, IsSome, OnErr};
 ghost use Rattle.sig_step.specs.LinkEnds.{Asks, Past, Queues, asked_to_pop, asked_to_push};
 
 use sig_base::Full;
@@ -49,14 +49,4 @@ pub trait Ends {
         ensures links { same self.old self.new }
         ensures pushes { pushes self.new ≡ pushes self.old }
         ensures pops { pops self.new ≡ pops self.old };
-}
-
-/// Link ends that may call another actor.
-pub trait Calls {
-    // No other actor is called.
-    ghost quiet: { Self → Type 0 };
-
-    /// Whether no other actor is called.
-    fn is_quiet(&self) -> bool
-        ensures { IsTrue result → quiet self.now };
 }

@@ -1,15 +1,19 @@
 //! Several steps of an actor.
 
-ghost use Rattle.std.specs.Prelude.{◌≡◌, ◌≢◌, ◌≤◌, IsTrue};
-ghost use Rattle.sig_step.specs.Prelude.{false, code_of, instant_of};
+ghost use Rattle.std.specs.Prelude.{◌≡◌, ◌≢◌, ◌≤◌, ◌<◌, ◌+◌, ◌^◌, ◌↔◌, IsTrue};
+ghost use Rattle.sig_step.specs.Prelude.{Some, false, true, code_of, instant_of, slice_get, IsMachineOfActor};
 ghost use Rattle.sig_step.specs.Acting.{MayUse};
-ghost use Rattle.sig_step.specs.GoingOn.{ActsOn, ActsUntil, DoesStep};
+ghost use Rattle.sig_step.specs.GoingOn.{ActsOn, DoesStep};
 ghost use Rattle.sig_step.specs.Moving.{IsSameActor};
-ghost use Rattle.sig_step.specs.States.{IsStateOf};
+ghost use Rattle.sig_step.specs.States.{IsStateOf, known_in};
+ghost use Rattle.sig_step.specs.inner.Following.{AreFollowed, DoOperations};
+ghost use Rattle.sig_step.specs.inner.Passing.{PassesOver};
 ghost use Rattle.sig_step.specs.declared.answer.Acted.TheVariants.{Done};
 
 use crate::answer::Acted;
-use crate::ends::{Calls, Ends};
+use crate::ends::Ends;
+use crate::moving::position_of;
+use crate::plans::plans_can_run;
 use crate::state::ClusterState;
 use sig_dd::Steps;
 use sig_kernel::Inputs;
@@ -30,7 +34,7 @@ impl ClusterState {
     ) -> Acted
         requires state { IsStateOf plan.now inputs.now self.old }
         requires links { MayUse plan.now self.old.actor (E.pushes ends.old) (E.pops ends.old) }
-        ensures steps { ActsOn E.past E.queues E.found_full E.found_empty E.same plan.now inputs.now result self.old self.new ends.old ends.new steps.old steps.new }
+        ensures steps { ActsOn E.past E.queues E.found_full E.found_empty E.same plan.now inputs.now more result self.old self.new ends.old ends.new steps.old steps.new }
         ensures state { IsStateOf plan.now inputs.now self.new }
         ensures same { IsSameActor self.old self.new }
         ensures pushes { E.pushes ends.new ≡ E.pushes ends.old }
@@ -40,7 +44,10 @@ impl ClusterState {
             return self.act_once(plan, inputs, ends, steps);
         }
         let code = self.code(plan);
-        for _ in 0..more {
+        let mut left = more;
+        while left > 0 {
+            left -= 1;
+            left -= self.go_on(plan, inputs, code, left);
             let acted = self.act_within(plan, inputs, code, ends, steps);
             if !self.is_amid(acted) {
                 return acted;
@@ -49,38 +56,56 @@ impl ClusterState {
         self.act_once(plan, inputs, ends, steps)
     }
 
-    /// The same, with no limit of their number, until one of them leaves ends that call another actor.
+    /// Does the operations of the next steps in a row, where their guard is known in this instant to hold, but no more
+    /// than so many, and tells how many were done. No link is asked, no guard is met, and no instant ends.
     #[inline(always)]
-    pub fn act_until<E: Ends + Calls, L: Ledger>(
-        &mut self,
-        plan: &Plan,
-        inputs: &Inputs,
-        ends: &mut E,
-        steps: &mut Steps<L>,
-    ) -> Acted
+    fn go_on(&mut self, plan: &Plan, inputs: &Inputs, code: &[Step], most: u32) -> u32
         requires state { IsStateOf plan.now inputs.now self.old }
-        requires links { MayUse plan.now self.old.actor (E.pushes ends.old) (E.pops ends.old) }
-        ensures steps { ActsUntil E.past E.queues E.found_full E.found_empty E.same E.quiet plan.now inputs.now result self.old self.new ends.old ends.new steps.old steps.new }
-        ensures state { IsStateOf plan.now inputs.now self.new }
-        ensures same { IsSameActor self.old self.new }
-        ensures pushes { E.pushes ends.new ≡ E.pushes ends.old }
-        ensures pops { E.pops ends.new ≡ E.pops ends.old }
+        requires runs { self.old.ended ≡ false }
+        requires within { instant_of self.old.values ≤ self.old.limit }
+        requires code { code.now ≡ (code_of plan.now self.old.actor).steps }
+        ensures few { result ≤ most }
+        ensures over { (over : PassesOver plan.now inputs.now self.old self.new) × (over.count ≡ result) }
     {
-        if !self.runs() {
-            return self.act_once(plan, inputs, ends, steps);
+        plans_can_run(plan);
+        let step = self.next_step_in(plan, code);
+        if !self.is_on(step.slot) {
+            return 0;
         }
-        let code = self.code(plan);
-        for _ in 0..u32::MAX {
-            let acted = self.act_within(plan, inputs, code, ends, steps);
-            if !self.is_amid(acted) {
-                return acted;
+        let row = self.rows[self.step as usize] - self.step;
+        let count = if row < most { row } else { most };
+        let done = self.follow(plan, inputs, count);
+        self.step += done;
+        self.pos = position_of(code, self.step);
+        done
+    }
+
+    /// Does the operations of so many steps from the next one on, up to one that has no value, and tells how many were done.
+    #[inline(always)]
+    fn follow(&mut self, plan: &Plan, inputs: &Inputs, most: u32) -> u32
+        requires machine { IsMachineOfActor plan.now self.old.actor inputs.now self.old.values }
+        requires operations { DoOperations plan.now self.old.actor self.old.step most }
+        requires short { self.old.step + most < 2 ^ 32 }
+        ensures few { result ≤ most }
+        ensures followed { AreFollowed plan.now self.old.actor inputs.now self.old.step result self.old.values self.new.values }
+        ensures stays { self.new ≡ record self.old { values = self.new.values } }
+    {
+        let actor = self.actor;
+        let from = self.step;
+        for done in 0..most {
+            if !self.values.follow(plan, actor, from + done, inputs) {
+                return done;
             }
-            if !ends.is_quiet() {
-                return acted;
-            }
-            self.pass_over(plan, inputs, code);
         }
-        self.act_once(plan, inputs, ends, steps)
+        most
+    }
+
+    /// Whether it is known in this instant that the guard of a slot holds.
+    #[inline(always)]
+    fn is_on(&self, number: u32) -> bool
+        ensures { IsTrue result ↔ (known_in (instant_of self.now.values) (slice_get self.now.marks.items number) ≡ Some true) }
+    {
+        self.known(number) == Some(true)
     }
 
     /// Whether the actor runs within its limit.

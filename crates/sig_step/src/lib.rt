@@ -10,16 +10,16 @@ mod guards;
 mod making;
 mod moving;
 mod operating;
-mod passing;
 mod plans;
 mod putting;
 mod receiving;
+mod rows;
 mod sending;
 mod sharing;
 mod state;
 mod step;
 
 pub use answer::{Acted, StepAnswer};
-pub use ends::{Calls, Ends};
+pub use ends::Ends;
 pub use sharing::states_may_be_moved;
 pub use state::ClusterState;

@@ -7,6 +7,7 @@ ghost use Rattle.sig_step.specs.States.{IsStateOf, actor_of};
 use crate::answer::StepAnswer;
 use crate::moving::position_of;
 use crate::plans::{code_at, plans_can_run};
+use crate::rows::rows_of;
 use crate::state::{ClusterState, Mark};
 use sig_kernel::Inputs;
 use sig_machine::ActorMachine;
@@ -44,6 +45,7 @@ impl ClusterState {
             ended: false,
             values: ActorMachine::new(alloc, plan, actor, inputs)?,
             marks: unknown(alloc, code.slots().len())?,
+            rows: rows_of(alloc, code.steps())?,
         })
     }
 }

@@ -31,6 +31,8 @@ pub struct ClusterState {
     pub(crate) values: ActorMachine,
     /// By slot.
     pub(crate) marks: Vec<Mark>,
+    /// By step: up to which step operations of one slot come one after another.
+    pub(crate) rows: Vec<u32>,
 }
 
 impl ClusterState {

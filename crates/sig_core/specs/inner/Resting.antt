@@ -45,11 +45,6 @@ pub record Touches (k : ℕ) (link : Option ℕ) (old new : Core) : Type 0 where
   pub states : (i : ℕ) → i ≢ k → slice_get new.states.items i ≡ slice_get old.states.items i
   pub links : (j : ℕ) → link ≢ Some j → queues_of new.lists j ≡ queues_of old.lists j
 
--- A number is not above that of the actor k, and no actor below it uses at its next step the link that the next step of k uses.
-pub record IsLow (c : Core) (k low : ℕ) : Type 0 where
-  pub own : low ≤ k
-  pub apart : (i : ℕ) → i < low → (j : ℕ) → next_link c k ≡ Some j → next_link c i ≡ Some j → ⊥
-
 -- what is left where the actors below a number rest
 abbrev pub left_behind : Core → ℕ → ℕ
 left_behind c k = left_in c * (length c.states.items + 1) + (length c.states.items - k)

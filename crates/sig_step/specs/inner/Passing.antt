@@ -1,4 +1,4 @@
--- Steps that are passed over, one after another.
+-- Turns within an instant that ask no link and meet no guard, one after another.
 use Rattle.std.specs.Prelude.{◌≡◌, ◌+◌}
 use Rattle.sig_step.specs.Prelude.{ℕ, zero, suc, ℤ, Bool, List, slice_get, Some, turn, PlanView, instant_of}
 use Rattle.sig_step.specs.Acting.{Acts}

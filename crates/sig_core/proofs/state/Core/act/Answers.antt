@@ -1,4 +1,4 @@
-use Rattle.sig_core.proofs.{◌≡◌, ◌<◌, ◌≤◌, ℕ, arith, length, ap, refl, Some, slice_get, slice_index_or, err_from_is_err_and, commit_happened, lines_core, lines_happened, lines_touch, next_link, kept_happened, past_act_keeps, past_act_tells, state_there, IsCore, IsSameRun, Core, Given, Act, ClusterState, TookPrefix}
+use Rattle.sig_core.proofs.{◌≡◌, ◌<◌, ◌≤◌, ℕ, arith, length, ap, refl, Some, slice_get, slice_index_or, err_from_is_err_and, commit_happened, lines_core, lines_happened, kept_happened, past_act_keeps, past_act_tells, state_there, IsCore, IsSameRun, Core, Given, Act, ClusterState, TookPrefix}
 use Rattle.sig_core.proofs.state.Core.act.Goals as goal
 
 past : (core : Core) (k len : ℕ) → len ≡ core.states.len → len ≤ k → length core.states.items ≤ k
@@ -38,11 +38,5 @@ returns-in_ok-put_reaction_at_once-in-Commit-clause-happened g c =
 pub returns-in_err-put_reaction_at_once-in-Commit-clause-core : goal.returns-in_err-put_reaction_at_once-in-Commit-clause-core
 returns-in_err-put_reaction_at_once-in-Commit-clause-core g c = lines_core c.step.new.self c.put_reaction_at_once.new.lines c.in-Commit.ensures.core c.put_reaction_at_once.ensures.size
 
-pub returns-in_err-put_reaction_at_once-in-Commit-clause-touches : goal.returns-in_err-put_reaction_at_once-in-Commit-clause-touches
-returns-in_err-put_reaction_at_once-in-Commit-clause-touches g c = lines_touch c.step.new.self c.put_reaction_at_once.new.lines c.args.k (next_link c.args.self.now c.args.k) c.args.self.now c.in-Commit.ensures.touches
-
 pub returns-in_ok-put_reaction_at_once-in-Commit-clause-core : goal.returns-in_ok-put_reaction_at_once-in-Commit-clause-core
 returns-in_ok-put_reaction_at_once-in-Commit-clause-core g c = lines_core c.step.new.self c.put_reaction_at_once.new.lines c.in-Commit.ensures.core c.put_reaction_at_once.ensures.size
-
-pub returns-in_ok-put_reaction_at_once-in-Commit-clause-touches : goal.returns-in_ok-put_reaction_at_once-in-Commit-clause-touches
-returns-in_ok-put_reaction_at_once-in-Commit-clause-touches g c = lines_touch c.step.new.self c.put_reaction_at_once.new.lines c.args.k (next_link c.args.self.now c.args.k) c.args.self.now c.in-Commit.ensures.touches

@@ -1,4 +1,4 @@
-use Rattle.sig_core.proofs.{◌≤◌, [], arith, ap, refl, subst, sym, opened_core, opened_shows, AreEmpty, longest_lines}
+use Rattle.sig_core.proofs.{[], arith, ap, refl, subst, opened_core, opened_shows, AreEmpty, longest_lines}
 use Rattle.sig_core.proofs.state.Core.new.Goals as goal
 
 pub returns-clause-core : goal.returns-clause-core

@@ -1,4 +1,4 @@
-use Rattle.sig_core.proofs.{subst, err_from_is_err_and, act_leads, none_rest, resting_serves, stepped_serves, LeavesLess, TellsChange, Act, TookPrefix, true}
+use Rattle.sig_core.proofs.{subst, err_from_is_err_and, act_leads, none_rest, resting_serves, LeavesLess, TellsChange, Act, TookPrefix, true}
 use Rattle.sig_core.proofs.state.Core.serve_step.Goals as goal
 
 pub returns-in_err-act-clause-part : goal.returns-in_err-act-clause-part
@@ -16,18 +16,10 @@ returns-then-not-branch-clause-serves g c =
     c.requires.looked (subst (TellsChange c.args.self.now (Act c.args.k)) c.if-not-branch.true c.in_ok-act.ensures.answer) c.args.sink.now c.act.new.sink c.in_ok-act.ensures.happened
     (subst (LeavesLess c.args.self.now c.act.new.self) c.if-not-branch.true c.in_ok-act.ensures.left)
 
-pub returns-then-self-word-clause-leads : goal.returns-then-self-word-clause-leads
-returns-then-self-word-clause-leads g c = act_leads g.S.Sink.took c.args.k c.args.self.now c.act.new.self c.args.sink.now c.act.new.sink c.requires.rest c.requires.looked _ c.in_ok-act.ensures.answer c.in_ok-act.ensures.happened
+pub returns-clause-leads : goal.returns-clause-leads
+returns-clause-leads g c = act_leads g.S.Sink.took c.args.k c.args.self.now c.act.new.self c.args.sink.now c.act.new.sink c.requires.rest c.requires.looked _ c.in_ok-act.ensures.answer c.in_ok-act.ensures.happened
 
-pub returns-then-self-word-clause-serves : goal.returns-then-self-word-clause-serves
-returns-then-self-word-clause-serves g c =
-    stepped_serves g.S.Sink.took c.args.self.now c.act.new.self c.requires.core c.in_ok-act.ensures.core c.in_ok-act.ensures.run c.plans_are_accepted.ensures c.requires.reached c.args.k c.requires.actor c.requires.rest
-    c.lowest-low.result c.lowest-low.ensures c.in_ok-act.ensures.touches c.if-self-word.true (subst (LeavesLess c.args.self.now c.act.new.self) c.if-not-branch.false c.in_ok-act.ensures.left)
-
-pub returns-else-self-word-clause-leads : goal.returns-else-self-word-clause-leads
-returns-else-self-word-clause-leads g c = act_leads g.S.Sink.took c.args.k c.args.self.now c.act.new.self c.args.sink.now c.act.new.sink c.requires.rest c.requires.looked _ c.in_ok-act.ensures.answer c.in_ok-act.ensures.happened
-
-pub returns-else-self-word-clause-serves : goal.returns-else-self-word-clause-serves
-returns-else-self-word-clause-serves g c =
+pub returns-clause-serves : goal.returns-clause-serves
+returns-clause-serves g c =
     none_rest g.S.Sink.took c.args.self.now c.act.new.self c.requires.core c.in_ok-act.ensures.core c.in_ok-act.ensures.run c.plans_are_accepted.ensures c.requires.reached c.args.k c.requires.actor c.requires.rest
     (subst (LeavesLess c.args.self.now c.act.new.self) c.if-not-branch.false c.in_ok-act.ensures.left)

@@ -1,4 +1,4 @@
-use Rattle.sig_core.proofs.{◌≡◌, ◌<◌, ◌∙◌, ◌^◌, ℕ, arith, ap, rules, min, Option, Place, place_of_step, step_commits, step_core, step_leaves, step_stepped, step_tells, word_by, word_stays, touches_word, turn_touches, word_lesser, IsWord, given_of, Core, Failed}
+use Rattle.sig_core.proofs.{◌≡◌, ◌<◌, ◌∙◌, ◌^◌, ℕ, arith, ap, rules, min, Option, Place, place_of_step, step_commits, step_core, step_leaves, step_stepped, step_tells, word_by, word_stays, word_lesser, IsWord, given_of, Core, Failed}
 use Rattle.sig_core.proofs.state.Core.step.Given.{Over}
 use Rattle.sig_core.proofs.state.Core.step.Goals as goal
 
@@ -42,11 +42,6 @@ pub returns-in-Failed-clause-left : goal.returns-in-Failed-clause-left
 returns-in-Failed-clause-left g c =
     step_leaves c.args.self.now c.turn-acted.new.self c.requires.core c.plans_are_accepted.ensures c.args.k (Failed c.in-Failed.place) c.in-Failed.ensures.turn c.min-self.result (lesser g c) _ (stays g c)
 
-pub returns-in-Failed-clause-touches : goal.returns-in-Failed-clause-touches
-returns-in-Failed-clause-touches g c =
-    touches_word c.args.k _ c.args.self.now c.turn-acted.new.self c.min-self.result
-    (turn_touches c.args.self.now c.turn-acted.new.self c.requires.core c.plans_are_accepted.ensures c.args.k (Failed c.in-Failed.place) c.in-Failed.ensures.turn)
-
 module _ (g : Over) (c : goal.In_default g) where
   none_failed : (word : Option Place) → IsWord word c.args.self.now.word → IsWord (word_by c.turn-acted.result word) c.args.self.now.word
   none_failed word is = word_stays c.turn-acted.result (λ place same. c.in_default.not-Failed place same) c.args.self.now.word word is
@@ -67,5 +62,4 @@ returns-in_default g c =
       commits = step_commits old mid c.requires.core accepted c.args.k acted turn old.word words mid is;
       answer = step_tells old mid c.requires.core accepted c.args.k acted turn old.word words mid is;
       left = step_leaves old mid c.requires.core accepted c.args.k acted turn old.word words mid is;
-      touches = turn_touches old mid c.requires.core accepted c.args.k acted turn;
     }
