@@ -29,6 +29,7 @@ pub use Rattle.sig_outcome.proofs.Stages.{at_file_ends, behind_data, one_at_data
 pub use Rattle.sig_outcome.proofs.TakenPieces.{flushed}
 pub use Rattle.sig_compile.specs.Compiling.{AtPlan, FindsAccepted}
 pub use Rattle.sig_compile.proofs.Common.{AreRefused, Budget, Contents, Data, Good, HoldsBeyondBound, IfErr-weaker, IfSome_then, IsAboutPlan, IsAcceptedAs, IsAcceptedKernel, LongFile, LongImage, LongProgram, Missing, OneAtMost, Outcome, PROGRAM_BYTES, Program, ReadFault, Refusal, SaysLine, TooManyItems, behind_program, cases_lt, err_from_is_err_and, one_at_program, performs_outcome, performs_refusal, status_of, told}
+pub use Rattle.sig_compile.proofs.SomeOutcome.{HasVerdict, some_at_plan}
 pub use Rattle.sig_compile.proofs.Verdicts.{accepted_once, accepted_or_refused, refused_once}
 pub use Rattle.sig_runs.specs.Complete.{CanRun}
 pub use Rattle.sig_runs.specs.Ends.{IsOfKernel, end_line, end_status}

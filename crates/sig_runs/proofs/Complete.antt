@@ -1,7 +1,7 @@
--- An accepted program comes to an outcome, and one that can be run over flows to the end of its run.
-use Rattle.sig_runs.proofs.Common.{◌⊎◌, ℕ, ℤ, List, Some, ⊎_elim, inl, inr, refl, sym, ap, subst, PROGRAM_BYTES, Contents, inputs_of, Kernel, Signal, some_kernel_end, AreFlows, flows_or_fault, read_fit, Settings, Good, Holds, Outcome, refused, too_many_items, IsEnded, behind_data, behind_program, AreRefused, IsAcceptedAs, AtPlan, accepted_once, accepted_or_refused, refused_once, CanRun, AtFlows, AtLinks, HoldFew, RefusesFlows, RunComesTo, RunsTo, bad_flows, ended}
-use Rattle.sig_runs.proofs.FoundFiles.{some_at_data}
-use Rattle.sig_runs.proofs.OneRun.{flows_apart, links_refuse, no_flows_line, one_flows}
+-- Every program comes to an outcome, and one that can be run over flows to the end of its run.
+use Rattle.sig_runs.proofs.Common.{◌⊎◌, ℕ, ℤ, Bool, List, Some, ⊎_elim, inl, inr, refl, sym, ap, subst, PROGRAM_BYTES, Contents, inputs_of, Kernel, Signal, some_kernel_end, AreFlows, flows_or_fault, read_fit, Settings, Good, Holds, Outcome, refused, too_many_items, IsEnded, behind_data, behind_program, AreRefused, IsAcceptedAs, AtPlan, accepted_once, accepted_or_refused, refused_once, HasVerdict, some_at_plan, CanRun, AtFlows, AtLinks, HoldFew, RefusesFlows, RunComesTo, RunsTo, bad_flows, ended}
+use Rattle.sig_outcome.proofs.FoundFiles.{some_at_data}
+use Rattle.sig_runs.proofs.OneRun.{flows_apart, no_flows_line, one_flows}
 use Rattle.sig_runs.proofs.Plans.{items_are}
 use Rattle.sig_runs.proofs.Written.{is_ended}
 
@@ -17,16 +17,28 @@ module _ (held : Contents) (program flows : List ℕ) (settings : Settings) (ker
       let end = some_kernel_end kernel accepted.good.has.valid accepted.good.accepted values (read_fit kernel bytes values read) settings.instants in
       (ended kernel end.0 end.2 flows, record { trace = end.0; place = end.1; end = end.2; ends = end.3; is = refl })
 
-  few_run : HoldFew kernel settings.capacity → (o : Outcome) × RunComesTo held program flows settings o
+  abbrev BehindProgram : Outcome → Type 0
+  BehindProgram o = AtLinks kernel settings.capacity (Some program) (AtFlows held flows (inputs_of kernel) (λ values. RunsTo kernel values settings.instants flows)) o
+
+  few_run : HoldFew kernel settings.capacity → (o : Outcome) × BehindProgram o
   few_run few =
       let behind = some_at_data (AreFlows (inputs_of kernel)) (RefusesFlows flows (inputs_of kernel)) (flows_either flows (inputs_of kernel)) held flows
       (λ values. RunsTo kernel values settings.instants flows) some_end in
-      (behind.0, (Good kernel, accepted, inr (few, behind.1)))
+      (behind.0, inr (few, behind.1))
+
+  some_behind : (o : Outcome) × BehindProgram o
+  some_behind =
+      ⊎_elim (λ many. (refused 2 too_many_items (Some program), inl (many, refl))) few_run
+      (items_are kernel accepted.good.accepted settings.capacity)
 
   pub some_outcome : (o : Outcome) × RunComesTo held program flows settings o
-  some_outcome =
-      ⊎_elim (λ many. (refused 2 too_many_items (Some program), links_refuse program flows settings held kernel accepted many)) few_run
-      (items_are kernel accepted.good.accepted settings.capacity)
+  some_outcome = (some_behind.0, (Good kernel, accepted, some_behind.1))
+
+-- and whatever the program file holds
+pub any_outcome : ((pace : Bool) (bytes : List ℕ) → HasVerdict pace bytes) → (held : Contents) (program flows : List ℕ) (settings : Settings) → (o : Outcome) × RunComesTo held program flows settings o
+any_outcome verdicts held program flows settings =
+    some_at_plan verdicts settings.pace held program (λ kernel. AtLinks kernel settings.capacity (Some program) (AtFlows held flows (inputs_of kernel) (λ values. RunsTo kernel values settings.instants flows)))
+    (λ kernel accepted. some_behind held program flows settings kernel accepted)
 
 module _ (held : Contents) (program flows : List ℕ) (settings : Settings) (can : CanRun held program flows settings) where
   -- what comes behind its files comes to what is due of its kernel and its values

@@ -2,7 +2,6 @@ pub mod Common
 pub mod Plans
 pub mod FlowLines
 pub mod OneRun
-pub mod FoundFiles
 mod Loads
 pub mod Written
 pub mod EndOfRun

@@ -5,15 +5,20 @@ ghost use Rattle.sig_runs.specs.Prelude.{ℕ, List, PROGRAM_BYTES, Contents, Ker
 ghost use Rattle.sig_runs.specs.Complete.{CanRun};
 ghost use Rattle.sig_runs.specs.Runs.{RunComesTo, RunsTo};
 
-/// A law: an accepted program comes to exactly one outcome, whatever the flow file holds and whether it is
-/// there; and no run over told contents comes to two.
+use sig_compile::programs_have_a_verdict;
+
+/// A law: a run over told contents comes to exactly one outcome, whatever its files hold and whether they are
+/// there; and this is so of an accepted program.
 pub fn runs_have_one_outcome()
+    ensures every { (held : Contents) (program flows : List ℕ) (settings : Settings) → (o : Outcome) × RunComesTo held program flows settings o }
     ensures some { (held : Contents) (program flows : List ℕ) (settings : Settings) (kernel : Kernel)
         → Holds (held program) PROGRAM_BYTES (λ bytes. IsAcceptedAs settings.pace bytes kernel)
         → (o : Outcome) × RunComesTo held program flows settings o }
     ensures one { (held : Contents) (program flows : List ℕ) (settings : Settings) (o other : Outcome)
         → RunComesTo held program flows settings o → RunComesTo held program flows settings other → o ≡ other }
-{}
+{
+    programs_have_a_verdict();
+}
 
 /// A law: a program that can be run over flows comes to the end of its run: that, and nothing else, is what
 /// it comes to, with the text of the longest trace, the named cause, and status 0 or 3.

@@ -7,6 +7,7 @@
 mod command;
 mod laws;
 mod load;
+mod paying;
 mod report;
 mod run;
 

@@ -4,6 +4,7 @@ ghost use Rattle.std.specs.Prelude.{◌≡◌, ◌≤◌};
 ghost use Rattle.sig_runs.specs.Prelude.{Err, IfOk, IsWholeRun, TookSome, RunAnswer, AreFlowsFor, Rose};
 ghost use Rattle.sig_runs.specs.Runs.{AreWithinBounds};
 
+use crate::paying::are_wanted;
 use sig_alone::{RunAnswer, run_alone};
 use sig_kernel::Inputs;
 use sig_plan::{Ended, Plan};
@@ -14,9 +15,9 @@ use std::alloc::Global;
 use std::sync::Wait;
 use std::thread::Threads;
 
-/// Runs a plan over flows to its end, up to the limit of instants: without workers, or where there is one
-/// cluster and so nothing to spread, on this thread alone, in the compiled order; else with the clusters on
-/// as many workers, over links of the capacity. The sink gets the text of the longest trace, and the answer
+/// Runs a plan over flows to its end, up to the limit of instants: without workers, where there is one cluster and so
+/// nothing to spread, or where the settings are those of words that ask for no threads and these would not pay, on this
+/// thread alone, in the compiled order; else with the clusters on as many workers, over links of the capacity. The sink gets the text of the longest trace, and the answer
 /// is the number of its instants with the named cause; neither depends on the workers and the capacity.
 /// Where a write fails, a prefix of that text was appended. All memory is taken before the first instant.
 pub fn run_plan<R: Threads + Wait + Sync, S: Sink, G: Gate + Sync>(
@@ -42,7 +43,7 @@ pub fn run_plan<R: Threads + Wait + Sync, S: Sink, G: Gate + Sync>(
         instants,
         ..
     } = settings;
-    if workers == 0 || has_one_cluster(plan) {
+    if workers == 0 || has_one_cluster(plan) || !are_wanted(plan, settings) {
         return run_alone(alloc, plan, inputs, instants, gate, sink);
     }
     match sig_work::run(

@@ -27,6 +27,13 @@ is_single x y one = by one.0 one.1 where
 
 -- ---- the same share
 
+pub same_itself : (x : Share) → IsSameShare x x
+same_itself x = record {
+  count = refl;
+  members = λ number m is. (m, is, same_member m);
+  seats = (refl, refl);
+}
+
 pub same_then : (a b c : Share) → IsSameShare a b → IsSameShare b c → IsSameShare a c
 same_then a b c one two = record {
   count = two.count ∙ one.count;
@@ -85,13 +92,6 @@ module _ (others mine : List Share) (s t : Share) (same : IsSameShare s t) where
   in_middle : IsOneOf whole s
   in_middle = one_front (others ++ s ∷ []) mine s (one_back others (s ∷ []) s (one_single s))
 
-  itself : (x : Share) → IsSameShare x x
-  itself x = record {
-    count = refl;
-    members = λ number m is. (m, is, same_member m);
-    seats = (refl, refl);
-  }
-
   -- sums over both lists
   sums : (f : Share → ℕ) → sum_by f whole ≡ sum_by f others + f s + sum_by f mine
   sums f =
@@ -138,9 +138,9 @@ module _ (others mine : List Share) (s t : Share) (same : IsSameShare s t) where
   pub kept_moved : AreKept whole (others ++ (mine ++ t ∷ []))
   kept_moved = record {
     from = λ after one. elim (one_either others (mine ++ t ∷ []) after one) [
-      | inl front ↦ (after, in_others after front, itself after)
+      | inl front ↦ (after, in_others after front, same_itself after)
       | inr back ↦ elim (one_either mine (t ∷ []) after back) [
-        | inl m ↦ (after, in_mine after m, itself after)
+        | inl m ↦ (after, in_mine after m, same_itself after)
         | inr last ↦ (s, in_middle, subst (λ (x : Share). IsSameShare s x) (is_single t after last) same)
       ]
     ];

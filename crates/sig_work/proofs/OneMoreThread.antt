@@ -1,6 +1,6 @@
 -- One thread more: what is required, and what all of it comes to.
 use Rattle.sig_work.proofs.Common.{◌≡◌, ◌++◌, ℕ, suc, ℤ, List, [], ◌∷◌, length, refl, ap, sym, subst, arith, Err, Ok, OnErr, OnOk, Result, Halt, Reaction, PlanView, Joins, TookPrefix, run_of, AreBegun, AreBegunInSome, AreKept, IsOfSomeClusters, IsServedAs, WereHalted, WereRun, AreOfRun, AreOfSomeRun, AreSameShares, WereServed, WereStopped, Share, on_err_weaker, on_ok_weaker}
-use Rattle.sig_work.proofs.Kept.{begun_less, begun_moved, begun_run, halted_again, halted_base, halted_pushed, kept_moved, kept_pushed, kept_same, kept_single, kept_then, middle_is, one_collector, run_again, run_base, run_moved, run_pushed}
+use Rattle.sig_work.proofs.Kept.{begun_less, begun_moved, begun_run, halted_again, halted_base, halted_pushed, kept_moved, kept_pushed, kept_same, kept_single, kept_then, middle_is, one_collector, run_again, run_base, run_moved, run_pushed, same_itself}
 
 pub nil_of : (xs : List Share) → length xs ≡ 0 → xs ≡ []
 nil_of [] none = refl
@@ -140,6 +140,15 @@ module _ (plan : PlanView) (flows : List (List ℤ)) (word : Halt) where
     pub moved_kept : (more new : List Share) → more ≡ mine ++ t ∷ [] → AreKept (rest ++ more) new → AreKept (others ++ mine) new
     moved_kept more new is kept = subst (λ xs. AreKept (xs ++ mine) new) (sym popped)
         (kept_then ((rest ++ s ∷ []) ++ mine) (rest ++ (mine ++ t ∷ [])) new (kept_moved rest mine s t from.same) (subst (λ xs. AreKept (rest ++ xs) new) is kept))
+
+-- ---- a share that the caller serves from the first on
+
+pub served_itself : (plan : PlanView) (flows : List (List ℤ)) (word : Halt) (s : Share) → IsServedAs plan flows word s s
+served_itself plan flows word s = record {
+  same = same_itself s;
+  unfaulted = λ is. is;
+  clusters = λ capacity limit is. is;
+}
 
 -- ---- told of equal plans, flows, words and shares
 

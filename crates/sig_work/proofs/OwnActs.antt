@@ -215,11 +215,11 @@ module _ (given : Given) (accepted : IsAccepted given.plan) {E : Type 0} (ends_o
   same_ends_of (suc count) s t e f count_before count_after done =
       same_ends_then (ends_of e) (ends_of done.1) (ends_of f) (same_ends_of count s done.0 e done.1 count_before done.2 done.3) done.4.ends
 
-  pub acted_on : (committed : List Reaction) {acted : Acted} {s t : ClusterState} {e f : E} {count_before count_after : ℕ} → ActsOn past queues found_full found_empty same given.plan given.flows acted s t e f count_before count_after
+  pub acted_on : (committed : List Reaction) {more : ℕ} {acted : Acted} {s t : ClusterState} {e f : E} {count_before count_after : ℕ} → ActsOn past queues found_full found_empty same given.plan given.flows more acted s t e f count_before count_after
       → HasDone given committed (with_it s e) → HasActedAs given committed acted (with_it t f)
-  acted_on committed {acted} {s} {t} {e} {f} {count_before} {count_after} on is =
+  acted_on committed {more} {acted} {s} {t} {e} {f} {count_before} {count_after} on is =
       one_step committed acted on.mid t on.between f on.amid count_after on.last (several committed on.count s on.mid e on.between count_before on.amid on.done is)
 
-  pub ends_stay : {acted : Acted} {s t : ClusterState} {e f : E} {count_before count_after : ℕ} → ActsOn past queues found_full found_empty same given.plan given.flows acted s t e f count_before count_after → same e f
-  ends_stay {acted} {s} {t} {e} {f} {count_before} on =
+  pub ends_stay : {more : ℕ} {acted : Acted} {s t : ClusterState} {e f : E} {count_before count_after : ℕ} → ActsOn past queues found_full found_empty same given.plan given.flows more acted s t e f count_before count_after → same e f
+  ends_stay {more} {acted} {s} {t} {e} {f} {count_before} on =
       same_ends_then (ends_of e) (ends_of on.between) (ends_of f) (same_ends_of on.count s on.mid e on.between count_before on.amid on.done) on.last.ends

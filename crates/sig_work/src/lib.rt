@@ -15,6 +15,7 @@ mod gathering;
 mod handing;
 mod joining;
 pub mod laws;
+mod lead;
 mod member;
 mod neighbours;
 mod patience;

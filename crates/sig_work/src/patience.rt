@@ -8,8 +8,9 @@ use sig_halt::{Halt, Rest};
 use sig_plan::Plan;
 use std::sync::Wait;
 
-/// How often something is done before threads that rest are told.
-const MOVES: u32 = 16;
+/// Of so many threads each tells those that rest behind each second round in which it did something, of twice as many
+/// behind each third, and of fewer behind each round.
+const FEW_THREADS: usize = 4;
 
 /// The waiting of a thread that finds nothing to do, one time after another.
 #[derive(Drop)]
@@ -17,11 +18,13 @@ pub(crate) struct Patience<'a> {
     neighbours: Neighbours<'a>,
     /// Where the thread rests.
     bed: usize,
-    /// How often nothing was found to do, since something was done or the thread rested.
-    rounds: u32,
+    /// How many actors it serves.
+    actors: u32,
+    /// How many turns of theirs found nothing to do, since something was done or the thread rested.
+    turns: u32,
     spins: Spins,
-    /// How often something was done, since others were told.
-    moves: u32,
+    /// In how many rounds something was done, since others were told.
+    moves: usize,
     rest: Option<Rest<'a>>,
     turn: Turn,
 }
@@ -33,24 +36,25 @@ impl<'a> Patience<'a> {
         Patience {
             neighbours,
             bed: neighbours.bed_for(shares),
-            rounds: 0,
-            spins: Spins::new(),
+            actors: actors_of(shares),
+            turns: 0,
+            spins: Spins::new(halt.beds()),
             moves: 0,
             rest: None,
             turn: Turn::none(),
         }
     }
 
-    /// Something was done, which may give threads that rest something to do: they are told of it now and then. Where
-    /// a link of the collector refused what is next, the thread waits its turn.
+    /// Something was done, which may give threads that rest something to do: they are told, now and then where there
+    /// are many. Where a link of the collector refused what is next, the thread waits its turn.
     pub(crate) fn renew(&mut self, shares: &[Share]) {
-        self.spun();
-        self.rounds = 0;
-        if self.moves < MOVES {
+        if self.moves < self.neighbours.halt.beds() / FEW_THREADS {
             self.moves += 1;
         } else {
             self.tell();
         }
+        self.spun();
+        self.turns = 0;
         if let Some(instant) = self.neighbours.turn_of(shares) {
             self.turn.wait(instant);
         }
@@ -59,8 +63,8 @@ impl<'a> Patience<'a> {
     /// Where it found something to do while it spun, or had announced a rest, its spinning has helped.
     fn spun(&mut self) {
         let rest = self.rest.take();
-        if self.rounds > 0 || rest.is_some() {
-            self.spins.help(self.rounds);
+        if self.turns > 0 || rest.is_some() {
+            self.spins.help();
         }
         if let Some(rest) = rest {
             rest.give_up();
@@ -72,14 +76,14 @@ impl<'a> Patience<'a> {
         self.neighbours.halt.tell();
     }
 
-    /// Waits: it tells those that rest of all that was done before, and spins, a little longer each time; then it
-    /// announces a rest, and the next time it rests until another thread has done something for it. It never
-    /// yields: beside other programs a yield may cost it a whole time slice.
+    /// Waits: it tells those that rest of all that was done before, and spins; then it announces a rest, and the next
+    /// time it rests until another thread has done something for it. It never yields: beside other programs a yield
+    /// may cost it a whole time slice.
     pub(crate) fn wait<R: Wait>(&mut self, rt: &R, shares: &[Share]) {
         self.tell();
-        if self.rounds < self.spins.limit() {
-            spin(1 + self.rounds / 4);
-            self.rounds += 1;
+        if self.turns < self.spins.limit() {
+            spin(1);
+            self.turns = self.turns.saturating_add(self.actors);
         } else {
             self.rest(rt, shares);
         }
@@ -90,7 +94,7 @@ impl<'a> Patience<'a> {
         match self.rest.take() {
             Some(rest) => {
                 rest.sleep(rt);
-                self.rounds = 0;
+                self.turns = 0;
                 self.spins.fail(self.neighbours.instant_of(shares));
             }
             None => {
@@ -99,4 +103,13 @@ impl<'a> Patience<'a> {
             }
         }
     }
+}
+
+/// How many actors these shares have.
+fn actors_of(shares: &[Share]) -> u32 {
+    let mut actors: u32 = 0;
+    for share in shares {
+        actors = actors.saturating_add(share.members.len().min(u32::MAX as usize) as u32);
+    }
+    actors
 }

@@ -14,7 +14,7 @@ use crate::gathering::{gather, give_up};
 use crate::plans::plans_are_accepted;
 use crate::serving::serve;
 use crate::share::Share;
-use crate::workers::with_workers;
+use crate::workers::with_caller;
 use sig_halt::Halt;
 use sig_kernel::{Inputs, a_kernel_has_one_longest_trace};
 use sig_meaning::named_causes_exist_once;
@@ -26,10 +26,10 @@ use std::sync::atomic::AtomicBool;
 use std::thread;
 use std::thread::Threads;
 
-/// Runs a plan over flows, up to a limit of instants, on this thread and so many workers, over links of a
-/// capacity: the sink gets the text of the longest trace, and the answer is the number of its instants with
-/// the named cause. Cluster k is run by worker `k mod workers`, the collector by this thread, and so are the
-/// clusters of a worker that cannot be started. All memory is taken before the first step.
+/// Runs a plan over flows, up to a limit of instants, on so many workers, over links of a capacity: the sink gets the
+/// text of the longest trace, and the answer is the number of its instants with the named cause. Cluster k is run by
+/// worker `k mod workers`, of which this thread is the last, the collector by this thread too, and so are the clusters
+/// of a worker that cannot be started. All memory is taken before the first step.
 pub fn run<R: Threads + Wait + Sync, S: Sink, G: Gate + Sync>(
     rt: &R,
     alloc: Global,
@@ -207,7 +207,7 @@ fn run_threads<R: Threads + Wait + Sync, S: Sink, G: Gate + Sync>(
             requires room { length others.items + length mine.items ≤ vec_capacity mine }
             requires flags { length others.items ≤ length refused.now }
         {
-            let (shares, result) = with_workers(
+            let (shares, result) = with_caller(
                 scope, rt, plan, inputs, word, others, mine, refused, gate, &mut *sink,
             );
             (shares, result, sink)

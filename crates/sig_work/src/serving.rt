@@ -7,6 +7,7 @@ ghost use Rattle.sig_work.specs.inner.Rounds.{HasEndedAt, HaveEndedAt, IsShareOf
 ghost use Rattle.sig_work.specs.Shares.{AllEnded, AreOfRun, AreOfSomeRun, AreSameShares, HaveEnded, WereServed, WereStopped};
 ghost use Rattle.sig_work.specs.declared.round.Round.TheVariants.{Ended};
 
+use crate::lead::Lead;
 use crate::patience::Patience;
 use crate::round::Round;
 use crate::share::Share;
@@ -71,8 +72,10 @@ fn serve_on<R: Wait, S: Sink, G: Gate>(
     ensures faults_stay { S.faults sink.old ≤ S.faults sink.new }
 {
     let mut patience = Patience::new(plan, halt, shares);
+    let lead = Lead::new(plan, shares);
     'rounds: for _ in rt.forever() {
-        match serve_round(rt, plan, inputs, halt, shares, gate, sink)? {
+        let end = lead.end(shares);
+        match serve_round(rt, plan, inputs, halt, shares, end, gate, sink)? {
             Round::Ended => return Ok(()),
             Round::Still => patience.wait(rt, shares),
             Round::Moved | Round::Stuck => patience.renew(shares),
@@ -81,13 +84,14 @@ fn serve_on<R: Wait, S: Sink, G: Gate>(
     unreachable!()
 }
 
-/// One round of the shares.
+/// One round of the shares, in which no cluster comes past the end of instants.
 fn serve_round<R: Wait, S: Sink, G: Gate>(
     rt: &R,
     plan: &Plan,
     inputs: &Inputs,
     halt: &Halt,
     shares: &mut [Share],
+    end: u32,
     gate: &G,
     sink: &mut S,
 ) -> Result<Round, WriteFault>
@@ -101,7 +105,7 @@ fn serve_round<R: Wait, S: Sink, G: Gate>(
 {
     let mut round = Round::Ended;
     for at in 0..shares.len() {
-        round = round.and(advance_at(rt, plan, inputs, halt, shares, at, gate, sink)?);
+        round = round.and(advance_at(rt, plan, inputs, halt, shares, at, end, gate, sink)?);
     }
     Ok(round)
 }
@@ -114,6 +118,7 @@ fn advance_at<R: Wait, S: Sink, G: Gate>(
     halt: &Halt,
     shares: &mut [Share],
     at: usize,
+    end: u32,
     gate: &G,
     sink: &mut S,
 ) -> Result<Round, WriteFault>
@@ -126,7 +131,7 @@ fn advance_at<R: Wait, S: Sink, G: Gate>(
     ensures failed { OnErr result (Rose (S.faults sink.old) (S.faults sink.new)) }
     ensures faults_stay { S.faults sink.old ≤ S.faults sink.new }
 {
-    shares[at].advance(rt, plan, inputs, halt, gate, sink)
+    shares[at].advance(rt, plan, inputs, halt, end, gate, sink)
 }
 
 impl Share {
@@ -137,6 +142,7 @@ impl Share {
         plan: &Plan,
         inputs: &Inputs,
         halt: &Halt,
+        end: u32,
         gate: &G,
         sink: &mut S,
     ) -> Result<Round, WriteFault>
@@ -150,7 +156,9 @@ impl Share {
     {
         let mut round = Round::Ended;
         for number in 0..self.members.len() {
-            round = round.and(self.advance_member(rt, plan, inputs, halt, number, gate, sink)?);
+            round = round.and(self.advance_member(
+                rt, plan, inputs, halt, number, end, gate, sink,
+            )?);
         }
         Ok(round)
     }
@@ -163,6 +171,7 @@ impl Share {
         inputs: &Inputs,
         halt: &Halt,
         number: usize,
+        end: u32,
         gate: &G,
         sink: &mut S,
     ) -> Result<Round, WriteFault>
@@ -176,6 +185,6 @@ impl Share {
         ensures faults_stay { S.faults sink.old ≤ S.faults sink.new }
     {
         let member = &mut self.members[number];
-        member.advance(rt, plan, inputs, halt, &mut self.seat, gate, sink)
+        member.advance(rt, plan, inputs, halt, &mut self.seat, end, gate, sink)
     }
 }

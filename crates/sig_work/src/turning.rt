@@ -20,8 +20,8 @@ use std::sync::ledger::Blank;
 const STRETCHES_IN_TURN: u32 = 256;
 
 impl Member {
-    /// Does steps of the actor until a link refuses, it ends, or it did its share of them. It passes the
-    /// gate at each instant that it comes to. The sink gets the text of the reactions that it commits.
+    /// Does steps of the actor until a link refuses, it ends, it comes to the end of instants, or it did its share of
+    /// them. It passes the gate at each instant that it begins. The sink gets the text of the reactions that it commits.
     pub(crate) fn advance<R: Wait, S: Sink, G: Gate>(
         &mut self,
         rt: &R,
@@ -29,6 +29,7 @@ impl Member {
         inputs: &Inputs,
         halt: &Halt,
         seat: &mut HaltSeat,
+        end: u32,
         gate: &G,
         sink: &mut S,
     ) -> Result<Round, WriteFault>
@@ -42,7 +43,7 @@ impl Member {
         ensures faults_stay { S.faults sink.old ≤ S.faults sink.new }
     {
         let mut round = Round::Still;
-        for _ in 0..STRETCHES_IN_TURN {
+        for _ in 0..self.stretches(end) {
             match self.turn(rt, plan, inputs, halt, seat, gate, sink)? {
                 Round::Moved => round = Round::Moved,
                 Round::Stuck => return Ok(Round::Moved),
@@ -51,6 +52,14 @@ impl Member {
             }
         }
         Ok(round)
+    }
+
+    /// How many stretches it does at most before others get their turn: none where it has come to the end of instants.
+    fn stretches(&self, end: u32) -> u32 {
+        if self.state.ended() {
+            return 1;
+        }
+        STRETCHES_IN_TURN.min(end.saturating_sub(self.state.instant()))
     }
 
     /// Does the actor's next steps within an instant, and notes what the last of them came to. Where a link

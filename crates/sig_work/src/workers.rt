@@ -32,9 +32,46 @@ impl<'a> Promise<Share> for Service<'a> {
     ghost kept_by = { λ p share. IsServedAs p.plan.now p.inputs.now p.word.now p.share.value share };
 }
 
+/// Starts a thread for each of the first shares but the last of these, which it serves itself beside its own, and joins
+/// all threads.
+pub(crate) fn with_caller<'s, E: 's, R: Threads + Wait + Sync, S: Sink, G: Gate + Sync>(
+    scope: &'s Scope<'s, E>,
+    rt: &'s R,
+    plan: &'s Plan,
+    inputs: &'s Inputs,
+    word: &'s Halt,
+    mut others: Vec<Share>,
+    mut mine: Vec<Share>,
+    refused: &'s [AtomicBool],
+    gate: &'s G,
+    sink: &mut S,
+) -> (Vec<Share>, Result<(), WriteFault>)
+    requires run { AreBegunInSome plan.now inputs.now word.now others.items mine.items }
+    requires room { length others.items + length mine.items ≤ vec_capacity mine }
+    requires flags { length others.items ≤ length refused.now }
+    ensures kept { AreKept (others.items ++ mine.items) result.0.items }
+    ensures capacity { vec_capacity result.0 ≡ vec_capacity mine }
+    ensures served { (capacity limit : ℕ) (committed : List Reaction) → AreBegun (run_of plan.now inputs.now capacity limit) word.now committed others.items mine.items
+        → OnOk result.1 (WereRun S.took (run_of plan.now inputs.now capacity limit) word.now (others.items ++ mine.items) result.0.items sink.old sink.new committed) }
+    ensures stopped { (capacity limit : ℕ) (committed : List Reaction) → AreBegun (run_of plan.now inputs.now capacity limit) word.now committed others.items mine.items
+        → OnErr result.1 (WereHalted (TookPrefix S.took) (run_of plan.now inputs.now capacity limit) result.0.items sink.old sink.new committed) }
+    ensures failed { OnErr result.1 (Rose (S.faults sink.old) (S.faults sink.new)) }
+    ensures faults_stay { S.faults sink.old ≤ S.faults sink.new }
+{
+    let Some(share) = others.pop() else {
+        return with_workers(
+            scope, rt, plan, inputs, word, others, mine, refused, gate, sink,
+        );
+    };
+    mine.push_reserved(share);
+    with_workers(
+        scope, rt, plan, inputs, word, others, mine, refused, gate, sink,
+    )
+}
+
 /// Starts a thread for each of the first shares, serves the others beside those whose thread cannot be
 /// started, and joins all threads.
-pub(crate) fn with_workers<'s, E: 's, R: Threads + Wait + Sync, S: Sink, G: Gate + Sync>(
+fn with_workers<'s, E: 's, R: Threads + Wait + Sync, S: Sink, G: Gate + Sync>(
     scope: &'s Scope<'s, E>,
     rt: &'s R,
     plan: &'s Plan,

@@ -1,5 +1,8 @@
-use Rattle.sig_runs.proofs.{one_run_outcome, some_outcome}
+use Rattle.sig_runs.proofs.{any_outcome, one_run_outcome, some_outcome}
 use Rattle.sig_runs.proofs.laws.runs_have_one_outcome.Goals as goal
+
+pub returns-clause-every : goal.returns-clause-every
+returns-clause-every c = any_outcome c.programs_have_a_verdict.ensures
 
 pub returns-clause-some : goal.returns-clause-some
 returns-clause-some c = some_outcome
