@@ -29,6 +29,7 @@ pub use Rattle.sig_exec.proofs.RunOfSoundImage.{some_run}
 pub use Rattle.sig_exec.proofs.Single.{one_run}
 pub use Rattle.sig_outcome.specs.Outcomes.{long_image}
 pub use Rattle.sig_outcome.proofs.Common.{Bad, IsOfLength, Owes, done}
+pub use Rattle.sig_outcome.proofs.FoundFiles.{some_at_data}
 pub use Rattle.sig_outcome.proofs.Refused.{about_image, budget_of_image, count_of_length, no_budget_of_length, of_more_image, refused_image}
 pub use Rattle.sig_compile.proofs.Common.{HasSignalNames, OutOfMemory, some_plan}
 pub use Rattle.sig_compile.proofs.OneCompilation.{compile_number}
@@ -36,7 +37,6 @@ pub use Rattle.sig_runs.specs.Ends.{col_at, end_pieces, line_at, name_at, pieces
 pub use Rattle.sig_runs.proofs.Common.{Absent, AreFlows, AreFlowsFor, AreRefused, AtFile, AtFlows, AtPlan, BadLine, Budget, Cause, Contents, Data, Ended, FindsAccepted, FindsFlows, FlowAnswer, Found, Good, HasCount, HoldsBeyondBound, IfErr-weaker, IfSome_then, IsAboutFlows, IsAboutPlan, IsAccepted, IsAcceptedAs, IsAcceptedKernel, IsDue, IsEnded, IsFirstBadPlace, IsFlowLine, IsOwn, IsValid, Kernel, LacksMemory, Long, LongFile, LongImage, LongProgram, Missing, OneAtMost, Operation, Outcome, PROGRAM_BYTES, Performs, Place, PlanView, Program, Reaches, ReadFault, Refusal, RefusesFlows, Rose, SaysLine, Settings, Signal, Stops, TooManyItems, TookPrefix-whole, Trace, Version, Word, about_data, accepted_once, accepted_or_refused, at_file_ends, behind_data, behind_program, cases_lt, end_line, end_status, ended, err_from_is_err_and, file_body, flushed, inputs_of, is_line_byte, kind_named, later_count, later_own, list_all, long_file, long_program, name_where_there, named_fault, one_at_data, one_at_program, operations_in, outcome_of, output_text, performs_outcome, performs_refusal, read_fit, refused, refused_data, refused_once, status_of, text_fault, told, told_both, words_fault, words_of, write_line}
 pub use Rattle.sig_runs.proofs.Complete.{flows_either}
 pub use Rattle.sig_runs.proofs.FlowLines.{flow_line}
-pub use Rattle.sig_runs.proofs.FoundFiles.{some_at_data}
 pub use Rattle.sig_runs.proofs.OneRun.{flows_apart, no_flows_line, one_flows}
 pub use Rattle.sig_images.specs.Builds.{AreFewBytes, AreImageBytes, AreManyBytes, BuildComesTo, BuildsTo, HasBuilt, HasImage, HasLongImage, IsAboutBuild, IsBuildStatus, IsKernelImage, building}
 pub use Rattle.sig_images.specs.Complete.{CanBuild, CanExec}

@@ -1,6 +1,10 @@
--- An accepted program comes to an outcome of a build, and a sound image to one of its run; and each that is good is done.
-use Rattle.sig_images.proofs.Common.{◌≡◌, ◌∙◌, ◌⊎◌, ℕ, ℤ, false, List, length, Some, inl, inr, refl, sym, ap, subst, cases_lt, PROGRAM_BYTES, Contents, Settings, Kernel, AreFlows, image_bytes, ImageView, IMAGE_BYTES, Good, Outcome, done, long_image, refused, IsEnded, behind_data, behind_program, AreRefused, IsAcceptedAs, accepted_once, accepted_or_refused, refused_once, AtFlows, RefusesFlows, flows_either, some_at_data, flows_apart, no_flows_line, one_flows, AreFewBytes, AreManyBytes, BuildComesTo, BuildsTo, IsKernelImage, CanBuild, CanExec, ExecComesTo, ExecutesTo, executed, inputs_of_image, IsSoundFile, RefusesImage}
-use Rattle.sig_outcome.specs.Outcomes.{Holds}
+-- Every program comes to an outcome of a build, and every image file to one of its run; and each that is good is done.
+use Rattle.sig_images.proofs.Common.{◌≡◌, ◌∙◌, ◌⊎◌, ◌<◌, ◌≤◌, ℕ, ℤ, Bool, false, List, length, Option, None, Some, inl, inr, refl, sym, ap, subst, cases_lt, PROGRAM_BYTES, Contents, Settings, Kernel, AreFlows, image_bytes, ImageView, IMAGE_BYTES, Absent, Good, Long, Outcome, done, long_image, refused, IsEnded, behind_data, behind_program, AreRefused, IsAcceptedAs, accepted_once, accepted_or_refused, refused_once, AtFlows, RefusesFlows, flows_either, some_at_data, flows_apart, no_flows_line, one_flows, AreFewBytes, AreManyBytes, BuildComesTo, BuildsTo, IsKernelImage, CanBuild, CanExec, ExecComesTo, ExecutesTo, executed, inputs_of_image, IsSoundFile, RefusesImage}
+use Rattle.sig_text.specs.Read.{IsLongerThan}
+use Rattle.sig_outcome.specs.Outcomes.{Bad, Holds, long_file, not_found}
+use Rattle.sig_compile.proofs.SomeOutcome.{HasVerdict, some_at_plan}
+use Rattle.sig_images.specs.ImageFiles.{AreBytes}
+use Rattle.sig_images.proofs.FileVerdict.{image_verdict}
 use Rattle.sig_images.proofs.ImageRuns.{some_image_run}
 use Rattle.sig_images.proofs.FileOnce.{image_apart, one_image_line, one_sound}
 use Rattle.sig_images.proofs.ImageOnce.{image_once, some_image}
@@ -20,6 +24,12 @@ module _ (held : Contents) (program : List ℕ) where
       let image = some_image kernel accepted.good.has.valid accepted.good.accepted in
       let built = of_length kernel image.0 image.1 (cases_lt IMAGE_BYTES (length (image_bytes image.0))) in
       (built.0, (Good kernel, accepted, built.1))
+
+  -- and whatever the program file holds
+  pub any_build : ((pace : Bool) (bytes : List ℕ) → HasVerdict pace bytes) → (o : Outcome) × BuildComesTo held program o
+  any_build verdicts = some_at_plan verdicts false held program (λ kernel. BuildsTo kernel program) (λ kernel accepted.
+      let image = some_image kernel accepted.good.has.valid accepted.good.accepted in
+      of_length kernel image.0 image.1 (cases_lt IMAGE_BYTES (length (image_bytes image.0))))
 
   module _ (can : CanBuild held program) where
     done_built : (o : Outcome) → BuildsTo can.kernel program o → o ≡ done (image_bytes can.few.image) program
@@ -46,11 +56,28 @@ module _ (held : Contents) (file flows : List ℕ) (settings : Settings) where
         let run = some_image_run image sound.good.file.right sound.good.sound values settings.instants (flows_fit image sound.good.file.right bytes values read) in
         (executed image run.0 run.1 flows, record { text = run.0; end = run.1; runs = run.2; is = refl })
 
+    some_behind : (o : Outcome) × AtFlows held flows (inputs_of_image image) (λ values. ExecutesTo image values settings.instants flows) o
+    some_behind =
+        some_at_data (AreFlows (inputs_of_image image)) (RefusesFlows flows (inputs_of_image image)) (flows_either flows (inputs_of_image image)) held flows
+        (λ values. ExecutesTo image values settings.instants flows) some_end
+
     pub some_exec : (o : Outcome) × ExecComesTo held file flows settings o
-    some_exec =
-        let behind = some_at_data (AreFlows (inputs_of_image image)) (RefusesFlows flows (inputs_of_image image)) (flows_either flows (inputs_of_image image)) held flows
-        (λ values. ExecutesTo image values settings.instants flows) some_end in
-        (behind.0, (Good image, sound, behind.1))
+    some_exec = (some_behind.0, (Good image, sound, some_behind.1))
+
+  -- and whatever bytes the image file holds
+  module _ (are : (bytes : List ℕ) → held file ≡ Some bytes → AreBytes bytes) where
+    of_bytes : (bytes : List ℕ) → held file ≡ Some bytes → (IMAGE_BYTES < length bytes) ⊎ (length bytes ≤ IMAGE_BYTES)
+        → ((image : ImageView) × IsSoundFile bytes image) ⊎ ((line : List ℕ) × RefusesImage file bytes line) → (o : Outcome) × ExecComesTo held file flows settings o
+    of_bytes bytes there (inl long) verdict = (refused 4 (long_file file) (Some file), (Long, subst (λ (found : Option (List ℕ)). IsLongerThan found IMAGE_BYTES) (sym there) long, refl))
+    of_bytes bytes there (inr short) (inr bad) = (refused 4 bad.0 (Some file), (Bad bad.0, record { bytes = bytes; there = there; short = short; good = bad.1 }, refl))
+    of_bytes bytes there (inr short) (inl good) = some_exec good.0 (record { bytes = bytes; there = there; short = short; good = good.1 })
+
+    of_file : (found : Option (List ℕ)) → held file ≡ found → (o : Outcome) × ExecComesTo held file flows settings o
+    of_file None none = (refused 5 (not_found file) (Some file), (Absent, none, refl))
+    of_file (Some bytes) there = of_bytes bytes there (cases_lt IMAGE_BYTES (length bytes)) (image_verdict file bytes (are bytes there))
+
+    pub any_exec : (o : Outcome) × ExecComesTo held file flows settings o
+    any_exec = of_file (held file) refl
 
   module _ (can : CanExec held file flows) where
     pub only_exec : (o : Outcome) → ExecComesTo held file flows settings o → ExecutesTo can.image can.values settings.instants flows o

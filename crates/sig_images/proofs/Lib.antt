@@ -1,4 +1,5 @@
 pub mod Common
+pub mod BuiltRuns
 pub mod Causes
 pub mod Complete
 pub mod CommandEnds
@@ -18,6 +19,7 @@ pub mod OneBuild
 pub mod OneExec
 pub mod Written
 unfoldable pub use Common.*
+pub use BuiltRuns.*
 pub use Causes.*
 pub use Complete.*
 pub use EndsAlike.*

@@ -1,6 +1,6 @@
 //! What is so of every build, and of every run of an image.
 
-ghost use Rattle.std.specs.Prelude.{◌≡◌, ◌≤◌, ◌⊎◌, ℕ, false, List, length};
+ghost use Rattle.std.specs.Prelude.{◌≡◌, ◌≤◌, ◌⊎◌, ℕ, false, List, Some, length};
 ghost use Rattle.sig_base.specs.declared.limits.TheConstants.{PROGRAM_BYTES};
 ghost use Rattle.sig_text.specs.Files.{Contents};
 ghost use Rattle.sig_kernel.specs.declared.kernel.Kernel.{Kernel};
@@ -18,6 +18,7 @@ ghost use Rattle.sig_images.specs.Complete.{CanBuild, CanExec};
 ghost use Rattle.sig_images.specs.Execs.{ExecComesTo, ExecutesTo};
 ghost use Rattle.sig_images.specs.ImageFiles.{AreBytes, IsSoundFile, RefusesImage};
 
+use sig_compile::programs_have_a_verdict;
 use sig_file::images_of_plans_are_right;
 use sig_front::kernels_of_texts;
 use sig_shipped::images_of_plans_are_sound;
@@ -39,15 +40,18 @@ pub fn images_of_kernels_are_right()
     images_of_plans_are_sound();
 }
 
-/// A law: an accepted program comes to exactly one outcome of `build`; and no build over told contents comes
-/// to two.
+/// A law: a build over told contents comes to exactly one outcome, whatever its file holds and whether it is
+/// there; and this is so of an accepted program.
 pub fn builds_have_one_outcome()
+    ensures every { (held : Contents) (program : List ℕ) → (o : Outcome) × BuildComesTo held program o }
     ensures some { (held : Contents) (program : List ℕ) (kernel : Kernel)
         → Holds (held program) PROGRAM_BYTES (λ bytes. IsAcceptedAs false bytes kernel)
         → (o : Outcome) × BuildComesTo held program o }
     ensures one { (held : Contents) (program : List ℕ) (o other : Outcome)
         → BuildComesTo held program o → BuildComesTo held program other → o ≡ other }
-{}
+{
+    programs_have_a_verdict();
+}
 
 /// A law: an accepted program whose image has few enough bytes comes to these bytes with status 0, and to
 /// nothing else.
@@ -58,9 +62,12 @@ pub fn good_builds_are_done()
         → BuildComesTo held program (done (image_bytes can.few.image) program) }
 {}
 
-/// A law: a sound image comes to exactly one outcome of `exec`, whatever the flow file holds and whether it is
-/// there; and no run over told contents comes to two.
+/// A law: the run of an image file over told contents comes to exactly one outcome, whatever bytes its files
+/// hold and whether they are there; and this is so of a sound image.
 pub fn execs_have_one_outcome()
+    ensures every { (held : Contents) (file flows : List ℕ) (settings : Settings)
+        → ((bytes : List ℕ) → held file ≡ Some bytes → AreBytes bytes)
+        → (o : Outcome) × ExecComesTo held file flows settings o }
     ensures some { (held : Contents) (file flows : List ℕ) (settings : Settings) (image : ImageView)
         → Holds (held file) IMAGE_BYTES (λ bytes. IsSoundFile bytes image)
         → (o : Outcome) × ExecComesTo held file flows settings o }

@@ -18,4 +18,7 @@ pub use laws::{
     builds_have_one_outcome, execs_have_one_outcome, good_builds_are_done, good_execs_end,
     image_files_have_a_verdict, images_of_kernels_are_one, images_of_kernels_are_right,
 };
-pub use shipped::{built_images_end_as_their_programs, images_run_as_their_kernels};
+pub use shipped::{
+    built_images_come_to_what_their_programs_do, built_images_end_as_their_programs,
+    images_run_as_their_kernels,
+};

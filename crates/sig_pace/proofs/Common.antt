@@ -3,7 +3,8 @@ pub use Rattle.std.proofs.Common.{AllPairs, Bool, Contains, Err, IfErr, IfSome, 
 pub use Rattle.std.proofs.Math.Decide.{dec_le, map_dec}
 pub use Rattle.std.proofs.lemmas.Bool.{false_from_ne_true, true_from_ne_false}
 pub use Rattle.std.proofs.lemmas.Fmt.{decimal_injective}
-pub use Rattle.std.proofs.lemmas.List.{append_cancel_left, get_or-map, map-append}
+pub use Rattle.std.proofs.Math.Seq.{drop-append-add, drop-append_seam, take-append-add, take-append_seam}
+pub use Rattle.std.proofs.lemmas.List.{append-nil, append_cancel_left, get_or-map, length-take, map-append, take-append-le}
 pub use Rattle.std.proofs.lemmas.List.Elements.{Contains-get_or, Contains-push, Contains-push_cases}
 pub use Rattle.std.proofs.lemmas.List.Folds.{list_all-append}
 pub use Rattle.std.proofs.lemmas.List.Sums.{sum_by-append}
@@ -16,11 +17,12 @@ pub use Rattle.sig_lists.proofs.Joined.{get_pushed}
 pub use Rattle.sig_lists.proofs.Places.{map_get, value_there}
 pub use Rattle.sig_lists.proofs.Ranges.{in_range}
 pub use Rattle.sig_lists.proofs.Searched.{Searched, all_options, all_truths, dec_each, first_below, searched_below, searched_lists}
-pub use Rattle.sig_base.specs.Traces.{Fits}
+pub use Rattle.sig_base.specs.Traces.{Bounded, Fits, IsValue}
 pub use Rattle.sig_base.specs.declared.ids.Kind.TheVariants.{Event}
 pub use Rattle.sig_base.specs.declared.limits.TheConstants.{SIGNALS}
 pub use Rattle.sig_kernel.specs.KernelTraces.{where_true}
-pub use Rattle.sig_kernel.specs.Validity.{HasParts}
+pub use Rattle.sig_kernel.specs.OutputText.{instant_text, output_text, outputs_of, seen_line, seen_lines}
+pub use Rattle.sig_kernel.specs.Validity.{AreFlowsFor, HasParts}
 pub use Rattle.sig_kernel.proofs.Common.{AllPass-from_list_all, AreAbsent, AreOfKinds, AreWellMade, Decides-int_eq, DefinesEach, Function, Gives, Instant, IsDistinct-cons, IsDistinct-head, IsDistinct-tail, IsFunction, IsOfKind, IsPrefixOf, IsTraceIn, Meets, Memory, Range, Row, Seen, Span, Trace, flow_of, function_of, inputs_of, is_kind, keeps_to_one, kind_fits, last_of, list_all-from_AllPass, remembered, rows_of, seen_at, silent_at, target_fits}
 pub use Rattle.sig_kernel.proofs.TraceLemmas.{Runs, runs_from_trace, trace_from_runs}
 pub use Rattle.sig_clock.specs.ClockRefusals.{IsAlive}
@@ -41,7 +43,7 @@ pub use Rattle.sig_pace.specs.MaximalClocks.{AreMaximalClocks, AreOfOneClock, Is
 pub use Rattle.sig_pace.specs.Paced.{GetsPaces, IsPaced, IsTaken, NeedsNoPaces, NeedsPaces, marked_from, marks_from, others_together, pace_name, paced_kernel, paces_from, place_of, together_from}
 pub use Rattle.sig_pace.specs.Refusals.{HasNoPaceRoom, HasTooManySignals, IsNameTaken, KeepsToPaceShare, KeepsToSystemShare}
 pub use Rattle.sig_pace.specs.Renumbering.{moved, renumbered, renumbered_equation, renumbered_form, renumbered_operand}
-pub use Rattle.sig_pace.specs.Restriction.{FitPaces, HasTracesOf, paced_seen, restricted, without_paces}
+pub use Rattle.sig_pace.specs.Restriction.{FitPaces, HasPaces, HasTracesOf, paced_seen, restricted, without_paces}
 pub use Rattle.sig_pace.specs.declared.answer.PaceAnswer.{PaceAnswer}
 pub use Rattle.sig_pace.specs.declared.asked.Asked.{Asked}
 pub use Rattle.sig_pace.specs.declared.candidates.Candidate.{Candidate}

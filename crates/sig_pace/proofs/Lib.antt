@@ -15,10 +15,12 @@ pub mod Places
 pub mod OneWayOrRefused
 pub mod RisingLists
 pub mod Rooms
+pub mod PacesOfTraces
 pub mod PacedRoot
 pub mod ShareLemmas
 pub mod RenumberedSignals
 pub mod PaceIsClock
+pub mod TextOfPaced
 pub mod TopLemmas
 pub mod TracesWithoutPaces
 pub mod PacedIsValid
@@ -34,7 +36,9 @@ pub use PacedIsValid.*
 pub use PacedLemmas.*
 pub use PacedOrRefused.*
 pub use PacedRoot.*
+pub use PacesOfTraces.*
 pub use Places.*
 pub use ShareLemmas.*
+pub use TextOfPaced.*
 pub use TopLemmas.*
 pub use TracesWithoutPaces.*

@@ -96,7 +96,7 @@ module _ (range : Range) (kernel : Kernel) (memory : Memory) where
 
 module _ (kernel : Kernel) (least : List ℕ) where
   -- what is left agrees with what was there
-  left_out : (wide : Instant) → Agrees (moved kernel.inputs (length least)) (length kernel.signals) (without_paces kernel least wide) wide
+  pub left_out : (wide : Instant) → Agrees (moved kernel.inputs (length least)) (length kernel.signals) (without_paces kernel least wide) wide
   left_out wide = what_is_left (length kernel.signals) (moved kernel.inputs (length least)) wide
 
   pub flow_alike : (past : Trace) (x : ℕ) → x < length kernel.signals → flow_of x (map (without_paces kernel least) past) ≡ flow_of (moved kernel.inputs (length least) x) past

@@ -1,7 +1,9 @@
 -- What the definitions and the clauses of this crate cite of std and of the crates below, passed on from one place.
 pub use Rattle.std.specs.Prelude.{AllPairs, Bool, Contains, Err, IfErr, IfOk, IsTrue, List, MatchOption, None, OnOk, Option, Result, Some, [], bytes_eq, codes, decimal, drop, false, if◌then◌else◌, is_some, length, map, nat_lt, pos, slice_get, slice_index_or, suc, take, true, ℕ, ℤ, ◌&&◌, ◌++◌, ◌+◌, ◌<◌, ◌^◌, ◌↔◌, ◌∷◌, ◌≡◌, ◌≢◌, ◌≤◌, ◌⊎◌}
-pub use Rattle.sig_base.specs.Traces.{Fits}
+pub use Rattle.sig_base.specs.Traces.{Bounded, Fits}
 pub use Rattle.sig_kernel.specs.KernelTraces.{IsTraceIn}
+pub use Rattle.sig_kernel.specs.OutputText.{output_text}
+pub use Rattle.sig_kernel.specs.Validity.{AreFlowsFor}
 pub use Rattle.sig_kernel.specs.Prelude.{Boolean, Event, Instant, IsPrefixOf, Range, SIGNALS, Seen, Span, Trace, flow_of, is_silent, seen_at}
 pub use Rattle.sig_dd.specs.Nodes.{Implies}
 pub use Rattle.sig_clock.specs.ClockRefusals.{IsPossible}

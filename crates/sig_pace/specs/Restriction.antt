@@ -1,6 +1,6 @@
 -- A kernel and its paced one: what is left of the traces of the paced kernel where the paces are left out.
-use Rattle.std.specs.Prelude.{◌≡◌, ◌<◌, ◌+◌, if◌then◌else◌}
-use Rattle.sig_pace.specs.Prelude.{ℕ, ℤ, pos, List, [], length, map, Option, None, Some, is_some, slice_get, slice_index_or, range_with_len, Instant, IsPrefixOf, Range, Seen, Trace, flow_of, is_silent, seen_at, IsTraceIn, Kernel}
+use Rattle.std.specs.Prelude.{◌≡◌, ◌<◌, ◌+◌, ◌++◌, if◌then◌else◌}
+use Rattle.sig_pace.specs.Prelude.{ℕ, ℤ, pos, List, [], length, map, Option, None, Some, is_some, slice_get, slice_index_or, range_with_len, AreFlowsFor, Bounded, Fits, Instant, IsPrefixOf, Range, Seen, Trace, flow_of, is_silent, seen_at, IsTraceIn, Kernel}
 use Rattle.sig_pace.specs.Paced.{paced_kernel}
 use Rattle.sig_pace.specs.Renumbering.{moved}
 
@@ -33,3 +33,13 @@ pub record HasTracesOf (kernel : Kernel) (least : List ℕ) : Type 0 where
   pub each : (range : Range) (trace : Trace) → IsTraceIn range kernel trace
       → (wide : Trace) × IsTraceIn range (paced_kernel kernel least) wide × (map (without_paces kernel least) wide ≡ trace)
       × TellsPresences kernel least trace wide
+
+-- A trace of a kernel that fits flows is, for some flows of the paces, what is left without them of a fitting trace of the
+-- paced kernel.
+pub record HasPaces (kernel : Kernel) (least : List ℕ) (flows : List (List ℤ)) (trace : Trace) : Type 0 where
+  pub wide : Trace
+  pub paces : List (List ℤ)
+  pub is : IsTraceIn Bounded (paced_kernel kernel least) wide
+  pub fit : AreFlowsFor (paced_kernel kernel least) (flows ++ paces)
+  pub fits : Fits (flows ++ paces) wide
+  pub left : map (without_paces kernel least) wide ≡ trace

@@ -1,12 +1,14 @@
 //! Laws of pacing. The function of a law does nothing when it runs.
 
 ghost use Rattle.std.specs.Prelude.{◌<◌, ◌^◌, ◌≡◌, ◌⊎◌, ◌↔◌, ◌+◌, ◌++◌};
-ghost use Rattle.sig_pace.specs.Prelude.{ℕ, ℤ, pos, true, List, Contains, length, map, slice_get, Some, is_some, Boolean, Fits, Instant, Range, Trace, seen_at, HasRoot, IsMissingRoot, IsSignal, IsTraceIn, IsValid, Kernel};
+ghost use Rattle.sig_pace.specs.Prelude.{ℕ, ℤ, pos, true, List, Contains, length, map, slice_get, Some, is_some, AreFlowsFor, Boolean, Bounded, Fits, Instant, Range, Trace, seen_at, HasRoot, IsMissingRoot, IsSignal, IsTraceIn, IsValid, Kernel, output_text};
 ghost use Rattle.sig_pace.specs.MaximalClocks.{AreMaximalClocks};
 ghost use Rattle.sig_pace.specs.Paced.{GetsPaces, IsPaced, pace_name, paced_kernel, place_of};
 ghost use Rattle.sig_pace.specs.Renumbering.{moved};
 ghost use Rattle.sig_pace.specs.Refusals.{HasTooManySignals, IsNameTaken};
-ghost use Rattle.sig_pace.specs.Restriction.{FitPaces, HasTracesOf, without_paces};
+ghost use Rattle.sig_pace.specs.Restriction.{FitPaces, HasPaces, HasTracesOf, without_paces};
+
+use sig_kernel::flows_hold_values;
 
 /// A law: with paces, each signal of a valid kernel is what it was, at its new place: its name, its kind,
 /// its cluster and where it is declared. The paces are boolean inputs of cluster 0 behind the old ones.
@@ -39,6 +41,22 @@ pub fn clocks_are_present_where_their_paces_are_true()
 pub fn traces_fit_the_flows_of_paces()
     ensures { (kernel : Kernel) (least : List ℕ) → IsValid kernel → (flows paces : List (List ℤ)) → length flows ≡ kernel.inputs
         → (wide : Trace) → Fits (flows ++ paces) wide ↔ (Fits flows (map (without_paces kernel least) wide) × FitPaces kernel paces wide) }
+{}
+
+/// A law: each trace of a kernel that fits flows is one that paces with some flows make.
+pub fn traces_have_paces()
+    ensures { (kernel : Kernel) (least : List ℕ) → IsValid kernel → ((m : ℕ) → Contains least m → IsSignal kernel m)
+        → (flows : List (List ℤ)) → AreFlowsFor kernel flows → (trace : Trace) → IsTraceIn Bounded kernel trace → Fits flows trace
+        → HasPaces kernel least flows trace }
+{
+    paced_kernels_have_the_old_traces();
+    flows_hold_values();
+}
+
+/// A law: a trace of a kernel with paces has the text that it has without them.
+pub fn paces_write_nothing()
+    ensures { (kernel : Kernel) (least : List ℕ) → IsValid kernel → (wide : Trace)
+        → output_text (paced_kernel kernel least) wide ≡ output_text kernel (map (without_paces kernel least) wide) }
 {}
 
 /// A law: a valid kernel that gets paces is valid with them.

@@ -23,6 +23,7 @@ pub use answer::PaceAnswer;
 pub use laws::{
     a_kernel_has_one_pacing, clocks_are_present_where_their_paces_are_true,
     kernels_are_paced_or_refused, paced_kernels_are_valid, paced_kernels_have_a_root,
-    paced_kernels_have_the_old_traces, signals_are_what_they_were, traces_fit_the_flows_of_paces,
+    paced_kernels_have_the_old_traces, paces_write_nothing, signals_are_what_they_were,
+    traces_fit_the_flows_of_paces, traces_have_paces,
 };
 pub use pacing::pace;

@@ -3,6 +3,7 @@ mod OneOutcome
 mod CommandWords
 mod TopClauses
 mod Complete
+mod AtPaces
 mod Sentence
 pub use Common.*
 pub use CommandWords.*

@@ -1,5 +1,5 @@
--- A command over told contents comes to one outcome at most, and to one where its program is good.
-use Rattle.sig_tool.proofs.Common.{◌≡◌, Contents, Command, Build, Check, Code, Exec, Judge, Load, Play, Print, Run, Tree, Outcome, HasGoodProgram, one_compile_outcome, one_print_outcome, one_judge_outcome, one_run_outcome, one_load_outcome, one_play_outcome, one_build_outcome, one_exec_outcome, ComesTo, canonical_text, done}
+-- A command over told contents comes to exactly one outcome.
+use Rattle.sig_tool.proofs.Common.{◌≡◌, ℕ, Bool, List, Settings, Contents, AreBytes, Some, Command, Build, Check, Code, Exec, Judge, Load, Play, Print, Run, Tree, Outcome, HasByteImage, HasGoodProgram, RunComesTo, PlayComesTo, LoadComesTo, BuildComesTo, ExecComesTo, JudgeComesTo, PrintComesTo, CompileComesTo, IsDueOf, Product, one_compile_outcome, one_print_outcome, one_judge_outcome, one_run_outcome, one_load_outcome, one_play_outcome, one_build_outcome, one_exec_outcome, ComesTo, canonical_text, done}
 use Rattle.sig_compile.specs.declared.product.Product.TheVariants as product
 use Rattle.sig_compile.proofs.Complete as compiles
 use Rattle.sig_images.proofs.Complete as images
@@ -30,3 +30,24 @@ some_outcome held (Load seed stages settings) can = loads.some_outcome seed stag
 some_outcome held (Build program) can = images.some_build held program can.kernel can.accepted
 some_outcome held (Exec image flows settings) can = images.some_exec held image flows settings can.image can.sound
 some_outcome held _ can = absurd can
+
+-- whatever its files hold
+module _ (compiled : (pace : Bool) (held : Contents) (program : List ℕ) (product : Product) → (o : Outcome) × CompileComesTo (IsDueOf product) pace held program o)
+    (printed : (held : Contents) (program : List ℕ) → (o : Outcome) × PrintComesTo held program o)
+    (run : (held : Contents) (program flows : List ℕ) (settings : Settings) → (o : Outcome) × RunComesTo held program flows settings o)
+    (play : (held : Contents) (program flows events : List ℕ) (settings : Settings) → (o : Outcome) × PlayComesTo held program flows events settings o)
+    (load : (seed stages : ℕ) (settings : Settings) → (o : Outcome) × LoadComesTo seed stages settings o)
+    (build : (held : Contents) (program : List ℕ) → (o : Outcome) × BuildComesTo held program o)
+    (exec : (held : Contents) (image flows : List ℕ) (settings : Settings) → ((bytes : List ℕ) → held image ≡ Some bytes → AreBytes bytes) → (o : Outcome) × ExecComesTo held image flows settings o)
+    (judge : (held : Contents) (program traces : List ℕ) → (o : Outcome) × JudgeComesTo held program traces o) where
+  pub every_outcome : (held : Contents) (c : Command) → HasByteImage held c → (o : Outcome) × ComesTo held c o
+  every_outcome held (Run program flows settings) are = run held program flows settings
+  every_outcome held (Play program flows events settings) are = play held program flows events settings
+  every_outcome held (Check program pace) are = compiled pace held program product.Verdict
+  every_outcome held (Tree program pace) are = compiled pace held program product.Tree
+  every_outcome held (Code program pace) are = compiled pace held program product.Code
+  every_outcome held (Print program) are = printed held program
+  every_outcome held (Judge program traces) are = judge held program traces
+  every_outcome held (Load seed stages settings) are = load seed stages settings
+  every_outcome held (Build program) are = build held program
+  every_outcome held (Exec image flows settings) are = exec held image flows settings are

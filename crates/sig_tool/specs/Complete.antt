@@ -1,5 +1,6 @@
 -- When a command is done, if memory is found and the nodes of diagrams suffice; and when it comes to an outcome.
-use Rattle.sig_tool.specs.Prelude.{false, Contents, Kernel, IsShortProgram, program as generated, Command, Build, Check, Code, Exec, Load, Play, Print, Run, Tree, CanBuild, CanCompile, CanExec, CanPrint, CanRun, CanLoad, CanPlay, HoldsSoundImage}
+use Rattle.std.specs.Prelude.{◌≡◌, ℕ, List, Some}
+use Rattle.sig_tool.specs.Prelude.{⊤, false, Contents, Kernel, IsShortProgram, program as generated, Command, Build, Check, Code, Exec, Load, Play, Print, Run, Tree, CanBuild, CanCompile, CanExec, CanPrint, CanRun, CanLoad, CanPlay, AreBytes, HoldsSoundImage}
 
 -- The files of a command are good: its program is accepted, or has a tree where it is printed alone; its links do not hold too
 -- many items; its image is short enough to be built, or sound to be run; and its flows and its events have a reading. Of
@@ -29,3 +30,8 @@ HasGoodProgram held (Load seed stages settings) = (kernel : Kernel) × IsShortPr
 HasGoodProgram held (Build program) = CanCompile false held program
 HasGoodProgram held (Exec image flows settings) = HoldsSoundImage (held image)
 HasGoodProgram held _ = ⊥
+
+-- What the image file of a command holds are bytes, as every file does that there is.
+abbrev pub HasByteImage : Contents → Command → Type 0
+HasByteImage held (Exec image flows settings) = (bytes : List ℕ) → held image ≡ Some bytes → AreBytes bytes
+HasByteImage held _ = ⊤

@@ -8,9 +8,9 @@
 -- The first part of the page is this sentence, as the law `accepted_programs_keep_the_headline` (src/headline.rt) proves it.
 -- The second part is what `sig_main` (src/top.rt) promises: for each of its clauses a definition, and above it the sentence
 -- that it is. A clause that is one short fact is told in brackets, and stands in src/top.rt alone. docs/meaning.md tells the
--- first part with an example, and docs/top-call.md how the definitions under the second part hang together.
-use Rattle.std.specs.Prelude.{◌≡◌, ◌⊎◌, ◌≤◌}
-use Rattle.sig_tool.specs.Prelude.{ℕ, ℤ, List, length, Option, None, IfSome, Bool, DidNotRise, IsPrefixOf, Trace, Fits, reduce, IsKernelTrace, output_text, Kernel, Place, Ended, IsKernelEnd, IsPlanOf, PlanView, Given, Core, Event, after, cause_of, reactions_text, run_of, IsEnabled, IsFinished, Contents, Word, TookPrefix, HasRun, HasPlay, HasBuilt, HasExecuted, HasLongImage, IsCut, IsDone, IsDue, IsEnded, IsRefused, IsRefusedBy, MayAnswer, Performs, CanLoad, loading}
+-- first part, but for paces, with an example, and docs/top-call.md how the definitions under the second part hang together.
+use Rattle.std.specs.Prelude.{◌≡◌, ◌⊎◌, ◌≤◌, ◌++◌}
+use Rattle.sig_tool.specs.Prelude.{ℕ, ℤ, List, length, map, take, AreFlowsFor, GetsPaces, HasOwnKernel, IsProgramTrace, restricted, without_paces, Option, None, IfSome, Bool, DidNotRise, IsPrefixOf, Trace, Fits, reduce, IsKernelTrace, output_text, Kernel, Place, Ended, IsKernelEnd, IsPlanOf, PlanView, Given, Core, Event, after, cause_of, reactions_text, run_of, IsEnabled, IsFinished, Contents, Word, TookPrefix, HasRun, HasPlay, HasBuilt, HasExecuted, HasLongImage, IsCut, IsDone, IsDue, IsEnded, IsRefused, IsRefusedBy, MayAnswer, Performs, CanLoad, loading}
 use Rattle.sig_tool.specs.Complete.{CanBeDone}
 use Rattle.sig_tool.specs.TopCall.{ComesTo, NeedsBeyondBound, HasBegun, IfLoad, IsAbout, IsStatusOf, OfBuild, OfCommand, OfExec, OfOutcome, OfPlay, OfRun}
 
@@ -21,23 +21,20 @@ use Rattle.sig_tool.specs.TopCall.{ComesTo, NeedsBeyondBound, HasBegun, IfLoad, 
 -- clocks is determined, no condition is forced, no operation waits for itself. `check` and all commands that compile answer
 -- by this definition (clauses `whole` and `refused`), want of memory and of the nodes of diagrams aside.
 --
--- "its traces": those of the program's kernel, by `IsKernelTrace`. Without the signals that the compiler made for operators
--- they are exactly the traces of the process (`HasTracesOf` of sig_front, the law's clause `traces`); with the flag
--- `--pace`, those of a kernel with paces are without them the old ones (`paced_kernels_have_the_old_traces` of sig_pace).
---
--- "all input flows": every list with one flow for each input, its values of the input's kind (`AreFlowsFor`).
--- "limits of instants": every number. "silent": an instant at which no signal is present.
+-- "its traces": those of the process that the text is (`IsProgramTrace` of sig_front, `IsProcessTrace` of sig_tree), over its
+-- declared and copied signals alone. "all input flows": every list with one flow for each input, its values of the input's
+-- kind (`AreFlowsFor`). "limits of instants": every number. "silent": an instant at which no signal is present.
 
 -- "its fitting traces": the values of each input, in order, begin its flow, and no more instants than the limit are not silent
-pub record IsFitting (kernel : Kernel) (flows : List (List ℤ)) (limit : ℕ) (trace : Trace) : Type 0 where
-  pub is : IsKernelTrace kernel trace
+pub record IsFitting (bytes : List ℕ) (flows : List (List ℤ)) (limit : ℕ) (trace : Trace) : Type 0 where
+  pub is : IsProgramTrace bytes trace
   pub fits : Fits flows trace
   pub within : length (reduce trace) ≤ limit
 
 -- "its fitting traces, silent instants removed, are the prefixes of one trace"
-pub record AreItsPrefixes (kernel : Kernel) (flows : List (List ℤ)) (limit : ℕ) (trace : Trace) : Type 0 where
-  pub traces : (other : Trace) → IsFitting kernel flows limit other → IsPrefixOf (reduce other) trace
-  pub prefixes : (front : Trace) → IsPrefixOf front trace → IsFitting kernel flows limit front × (reduce front ≡ front)
+pub record AreItsPrefixes (bytes : List ℕ) (flows : List (List ℤ)) (limit : ℕ) (trace : Trace) : Type 0 where
+  pub traces : (other : Trace) → IsFitting bytes flows limit other → IsPrefixOf (reduce other) trace
+  pub prefixes : (front : Trace) → IsPrefixOf front trace → IsFitting bytes flows limit front × (reduce front ≡ front)
 
 -- "every interleaving of its clusters, over links of any capacity from one": any list of events, each an actor that does its
 -- next step or looks whether it has to end, one after another, from the opening of any plan of the kernel. An event that
@@ -46,36 +43,90 @@ abbrev pub OfEachInterleaving : Kernel → List (List ℤ) → ℕ → (Given �
 OfEachInterleaving kernel flows limit Fact = (plan : PlanView) → IsPlanOf kernel plan → (capacity : ℕ) → 1 ≤ capacity → (events : List Event)
     → Fact (run_of plan flows capacity limit) (after (run_of plan flows capacity limit) events)
 
--- What is promised of such a state.
-pub record KeepsToTheTrace (kernel : Kernel) (trace : Trace) (place : Option Place) (end : Ended) (given : Given) (state : Core) : Type 0 where
+-- What is promised of such a state, where this is the trace's text.
+pub record KeepsToTheText (kernel : Kernel) (text : List ℕ) (place : Option Place) (end : Ended) (given : Given) (state : Core) : Type 0 where
   -- "writes a prefix of that trace's text"
-  pub prefix : IsPrefixOf (reactions_text kernel state.committed) (output_text kernel trace)
+  pub prefix : IsPrefixOf (reactions_text kernel state.committed) text
   -- "and has an enabled event until finished": one that changes the state, while not all actors have ended
   pub enabled : (IsFinished state → ⊥) → (event : Event) × IsEnabled given state event
   -- a finished one "wrote exactly that text"
-  pub whole : IsFinished state → reactions_text kernel state.committed ≡ output_text kernel trace
+  pub whole : IsFinished state → reactions_text kernel state.committed ≡ text
   -- "and names the first cause of its end": its failure word is the place of that cause, and names it
   pub word : IsFinished state → state.word ≡ place
   pub cause : IsFinished state → cause_of given.plan given.flows state state.word ≡ end.cause
 
--- The sentence, of the kernel of an accepted program, flows and a limit of instants.
-pub record KeepsHeadline (kernel : Kernel) (flows : List (List ℤ)) (limit : ℕ) : Type 0 where
-  -- "one trace"
-  pub trace : Trace
-  pub one : AreItsPrefixes kernel flows limit trace
-  -- "the first cause of its end": the limit, or the first operation in the compiled order that cannot be done in any instant
-  -- by which the trace could go on. The trace, the cause and its place are the only ones (`accepted_kernels_have_one_end`
-  -- of sig_deciding).
-  pub place : Option Place
-  pub end : Ended
-  pub ends : IsKernelEnd kernel flows limit trace place end
-  -- the kernel has a plan, so the interleavings are there
+-- The kernel has a plan, so there are interleavings, and each of them keeps to the text.
+pub record KeepInterleavings (kernel : Kernel) (flows : List (List ℤ)) (limit : ℕ) (text : List ℕ) (place : Option Place) (end : Ended) : Type 0 where
   pub plan : PlanView
   pub planned : IsPlanOf kernel plan
-  pub interleavings : OfEachInterleaving kernel flows limit (KeepsToTheTrace kernel trace place end)
+  pub each : OfEachInterleaving kernel flows limit (KeepsToTheText kernel text place end)
+
+-- The sentence, of an accepted program with its kernel, flows and a limit of instants.
+pub record KeepsHeadline (bytes : List ℕ) (kernel : Kernel) (flows : List (List ℤ)) (limit : ℕ) : Type 0 where
+  -- "one trace", of the process
+  pub trace : Trace
+  pub one : AreItsPrefixes bytes flows limit trace
+  -- it is what is left of the kernel's longest trace without the signals that the compiler made for operators
+  pub whole : Trace
+  pub restricts : restricted kernel.declared whole ≡ trace
+  -- "the first cause of its end": the limit, or the first operation in the compiled order that cannot be done in any instant
+  -- by which the trace could go on. The trace, the cause and its place are the only ones (clause `one` of the law).
+  pub place : Option Place
+  pub end : Ended
+  pub ends : IsKernelEnd kernel flows limit whole place end
+  -- "that trace's text"
+  pub written : output_text kernel whole ≡ output_text kernel trace
+  pub interleavings : KeepInterleavings kernel flows limit (output_text kernel trace) place end
+
+-- With the flag `--pace` a program without a root gets a boolean input for each maximal clock, its pace, behind its own inputs:
+-- an accepted one has a kernel with paces for the clocks of these least signals (`GetsPaces` of sig_pace). A pace says when
+-- its clock comes, so flows of the inputs and of the paces leave one trace of the process.
+
+-- what of a trace of the kernel with paces is the process's
+abbrev pub at_paces : Kernel → List ℕ → Trace → Trace
+at_paces own least wide = restricted own.declared (map (without_paces own least) wide)
+
+-- "its fitting traces", at these paces: what is left of a trace of the kernel with paces that fits all flows, with no more
+-- instants than the limit that are not silent
+pub record IsFittingAtPaces (own kernel : Kernel) (least : List ℕ) (flows : List (List ℤ)) (limit : ℕ) (trace : Trace) : Type 0 where
+  pub wide : Trace
+  pub is : IsKernelTrace kernel wide
+  pub fits : Fits flows wide
+  pub within : length (reduce wide) ≤ limit
+  pub left : at_paces own least wide ≡ trace
+
+-- they are fitting traces of the process for the flows of its own inputs and, "silent instants removed, are the prefixes of one trace"
+pub record ArePrefixesAtPaces (bytes : List ℕ) (own kernel : Kernel) (least : List ℕ) (flows : List (List ℤ)) (limit : ℕ) (trace : Trace) : Type 0 where
+  pub own_traces : (other : Trace) → IsFittingAtPaces own kernel least flows limit other → IsFitting bytes (take own.inputs flows) limit other
+  pub traces : (other : Trace) → IsFittingAtPaces own kernel least flows limit other → IsPrefixOf (reduce other) trace
+  pub prefixes : (front : Trace) → IsPrefixOf front trace → (other : Trace) × IsFittingAtPaces own kernel least flows limit other × (reduce other ≡ front)
+
+pub record KeepsHeadlineAtPaces (bytes : List ℕ) (own kernel : Kernel) (least : List ℕ) (flows : List (List ℤ)) (limit : ℕ) : Type 0 where
+  pub trace : Trace
+  pub one : ArePrefixesAtPaces bytes own kernel least flows limit trace
+  pub whole : Trace
+  pub left : reduce (at_paces own least whole) ≡ trace
+  pub place : Option Place
+  pub end : Ended
+  pub ends : IsKernelEnd kernel flows limit whole place end
+  -- the same of the kernel with paces: its instants are those that the limit and the `end:` line count, those at which every
+  -- pace is false too (that the fitting traces begin this one is in `ends`)
+  pub begins : (front : Trace) → IsPrefixOf front whole → IsKernelTrace kernel front × Fits flows front × (reduce front ≡ front)
+  pub written : output_text kernel whole ≡ output_text own trace
+  pub interleavings : KeepInterleavings kernel flows limit (output_text own trace) place end
+
+-- With the flag: no paces are needed, and the sentence holds as it stands; or it holds at the paces.
+abbrev pub KeepsHeadlineWithFlag : List ℕ → Kernel → List (List ℤ) → ℕ → Type 0
+KeepsHeadlineWithFlag bytes kernel flows limit = (HasOwnKernel bytes kernel × KeepsHeadline bytes kernel flows limit)
+    ⊎ ((own : Kernel) × (least : List ℕ) × HasOwnKernel bytes own × GetsPaces own kernel least × KeepsHeadlineAtPaces bytes own kernel least flows limit)
+
+-- Each fitting trace of the process, silent instants removed, is one at some paces.
+abbrev pub HasFlowsOfPaces : List ℕ → Kernel → Kernel → List ℕ → Type 0
+HasFlowsOfPaces bytes own kernel least = (flows : List (List ℤ)) → AreFlowsFor own flows → (limit : ℕ) (trace : Trace) → IsFitting bytes flows limit trace
+    → (paces : List (List ℤ)) × AreFlowsFor kernel (flows ++ paces) × IsFittingAtPaces own kernel least (flows ++ paces) limit (reduce trace)
 
 -- "every finished run, threaded or not": the commands `run`, with any number of workers, and `play`. What they promise are
--- the clauses `run` and `play` below, over the same `IsKernelEnd`; so that trace, text and cause are these. With workers,
+-- the clauses `run` and `play` below, over the same `IsKernelEnd`; so that trace, text and cause are these, by `ends` and `written`. With workers,
 -- what the threads did is a finished state of one of the interleavings above (`settled_actors_are_finished` of sig_settling,
 -- `gather` of sig_work).
 
@@ -102,7 +153,7 @@ WritesWhole words contents at at' took out out' Said status = IsDone status → 
 
 -- Clause `run`: a run with status 0 or 3 wrote the text of the one trace of the accepted program that its file holds, for the
 -- flows that the flow file says and the limit of instants, and said the first cause of its end with the number of the
--- trace's instants; the status is 3 exactly where that cause is an equation. The number of workers is no part of it.
+-- trace's instants (with paces, of the trace with them); the status is 3 exactly where that cause is an equation. The number of workers is no part of it.
 abbrev pub WritesTheTrace : {S : Type 0} → List Word → Option Contents → (S → List ℕ → S → Type 0) → (out out' : S) → (Said : List ℕ → Type 0) → (status : ℕ) → Type 0
 WritesTheTrace words contents took out out' Said status = IsEnded status → OfRun words (λ program flows settings. IfSome contents (λ held.
     HasRun held program flows settings status (λ text. took out text out') Said))
@@ -115,7 +166,8 @@ WritesThePlay words contents took out out' Said status = IsEnded status → OfPl
 
 -- Clause `build`: a build with status 0 wrote the bytes of the image of the accepted program that its file holds, no more than
 -- 67,108,864. All plans of a kernel have one image (`images_of_kernels_are_one` of sig_images); by
--- `images_run_as_their_kernels` of sig_images it is sound, and its run over flows that fit has the text of the one trace.
+-- `images_run_as_their_kernels` of sig_images it is sound, and its run over flows that fit has the text of the one trace, and
+-- `exec` over it comes to the outcome of `run` over the program (`built_images_come_to_what_their_programs_do`).
 abbrev pub WritesTheImage : {S : Type 0} → List Word → Option Contents → (S → List ℕ → S → Type 0) → (out out' : S) → (status : ℕ) → Type 0
 WritesTheImage words contents took out out' status = status ≡ 0 → OfBuild words (λ program. IfSome contents (λ held.
     HasBuilt held program (λ text. took out text out')))

@@ -1,11 +1,14 @@
 -- What the definitions and the clauses of this crate cite of std and of the crates below, passed on from one place.
 pub use Rattle.std.specs.List.{AllByRecursion}
-pub use Rattle.std.specs.Prelude.{Bool, IfErr, IfOk, IfSome, IsTrue, IsUtf8, List, None, Option, [], false, length, ℕ, ℤ, ⊤, ◌↔◌, ◌≡◌, ◌≤◌, ◌⊎◌}
+pub use Rattle.std.specs.Prelude.{Bool, IfErr, IfOk, IfSome, IsTrue, IsUtf8, List, None, Option, [], false, length, map, take, ℕ, ℤ, ⊤, ◌++◌, ◌↔◌, ◌≡◌, ◌≤◌, ◌⊎◌}
 pub use Rattle.sig_base.specs.Traces.{Fits, IsPrefixOf, reduce}
 pub use Rattle.sig_text.specs.Counts.{DidNotRise}
 pub use Rattle.sig_model.specs.Cores.{IsEnabled, IsFinished, cause_of}
 pub use Rattle.sig_model.specs.Prelude.{IsKernelTrace, Place}
-pub use Rattle.sig_front.specs.Kernels.{HasTracesOf}
+pub use Rattle.sig_flat.specs.Restricted.{restricted}
+pub use Rattle.sig_front.specs.Kernels.{HasTracesOf, IsProgramTrace}
+pub use Rattle.sig_pace.specs.Paced.{GetsPaces}
+pub use Rattle.sig_pace.specs.Restriction.{without_paces}
 pub use Rattle.sig_words.specs.Commands.{IsCommand, files_of, settings_of}
 pub use Rattle.sig_words.specs.Readings.{Word, texts}
 pub use Rattle.sig_words.specs.declared.command.Command.{Command}
@@ -30,4 +33,4 @@ pub use Rattle.sig_plays.specs.Plays.{HasBegunPlay, HasPlay, IsAboutPlay, PlayCo
 pub use Rattle.sig_images.specs.Builds.{BuildComesTo, HasBuilt, HasLongImage, IsAboutBuild, IsBuildStatus, building}
 pub use Rattle.sig_images.specs.Complete.{CanBuild, CanExec}
 pub use Rattle.sig_images.specs.Execs.{ExecComesTo, HasBegunExec, HasExecuted, IsAboutExec, IsExecStatus, executing}
-pub use Rattle.sig_images.specs.ImageFiles.{HoldsBeyondVerifying, HoldsSoundImage}
+pub use Rattle.sig_images.specs.ImageFiles.{AreBytes, HoldsBeyondVerifying, HoldsSoundImage}

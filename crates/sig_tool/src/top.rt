@@ -2,13 +2,19 @@
 
 ghost use Rattle.std.specs.Prelude.{◌≡◌, ◌⊎◌};
 ghost use Rattle.sig_tool.specs.Prelude.{[], IsTrue, Rose, Contents, files_of, texts, Command, Outcome, IsDone, IsRefused, SaysLine, image_line, items_line, memory_line, words_line, write_line};
-ghost use Rattle.sig_tool.specs.Complete.{CanBeDone, HasGoodProgram};
+ghost use Rattle.sig_tool.specs.Complete.{CanBeDone, HasByteImage, HasGoodProgram};
 ghost use Rattle.sig_tool.specs.Headline.{AnswersTheOutcome, BeginsItsFiles, ExceedsBounds, HasOwnStatus, HasTooLongImage, IsComplete, IsLoadComplete, LoadsWithoutFiles, SaysItsRefusal, WasCut, WritesPrefix, WritesTheImage, WritesTheImageRun, WritesThePlay, WritesTheTrace, WritesWhole};
 ghost use Rattle.sig_tool.specs.TopCall.{AreNoCommand, ComesTo, IsStatus, OfCommand};
 
 use crate::perform::perform;
 use crate::words::command_of;
+use sig_compile::programs_have_an_outcome;
+use sig_images::{builds_have_one_outcome, execs_have_one_outcome};
+use sig_judge_command::judges_have_one_outcome;
+use sig_load_command::loads_have_one_outcome;
 use sig_outcome::{say_no_memory, say_words};
+use sig_plays::plays_have_one_outcome;
+use sig_runs::runs_have_one_outcome;
 use sig_text::{Files, Gate, Sink};
 use sig_words::WordsAnswer;
 use std::alloc::Global;
@@ -131,14 +137,22 @@ pub fn sig_main<R: Threads + Wait + Sync, F: Files, S: Sink, E: Sink, G: Gate + 
     }
 }
 
-/// A law: a command over told contents comes to one outcome at most; and to one where its program is
-/// accepted, or has a tree where it is printed, or its image is sound, whatever its other files hold and whether
-/// they are there.
+/// A law: a command over told contents comes to exactly one outcome, whatever its files hold and whether they
+/// are there. `exec` is one of them as far as its image file holds bytes, and where the image is sound in any case.
 pub fn one_outcome()
     ensures one { (held : Contents) (c : Command) (one other : Outcome) →
         ComesTo held c one → ComesTo held c other → one ≡ other }
+    ensures every { (held : Contents) (c : Command) → HasByteImage held c → (o : Outcome) × ComesTo held c o }
     ensures some { (held : Contents) (c : Command) → HasGoodProgram held c → (o : Outcome) × ComesTo held c o }
-{}
+{
+    programs_have_an_outcome();
+    runs_have_one_outcome();
+    plays_have_one_outcome();
+    loads_have_one_outcome();
+    builds_have_one_outcome();
+    execs_have_one_outcome();
+    judges_have_one_outcome();
+}
 
 /// A law: whatever a command comes to whose files are good, it is done.
 pub fn good_commands_are_done()

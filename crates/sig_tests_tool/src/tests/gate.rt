@@ -165,7 +165,7 @@ impl<'a, S: Sink> Sink for Told<'a, S> {
     ghost took_both = { λ first middle last bytes more. S.took_both first.sink middle.sink last.sink bytes more };
 }
 
-/// The run of TWO on two threads beside the collector's, into this sink.
+/// The run of TWO on two threads, one of them the collector's, into this sink.
 fn run_two<R: Threads + Wait + Sync + AllocGlobal, S: Sink>(
     rt: &R,
     out: &mut S,
@@ -193,7 +193,7 @@ fn run_over<R: Threads + Wait + Sync + AllocGlobal, S: Sink>(
     Err(Fail::new(format_args!("status {status}, {failures} failures")))
 }
 
-/// Two clusters run on two threads beside the collector's, instant by instant.
+/// Two clusters run on two threads, one of them the collector's, instant by instant.
 #[test]
 fn gate_two(rt: HostRuntime) -> Result<(), Fail> {
     let meeting = Meeting::new();

@@ -1,5 +1,8 @@
-use Rattle.sig_images.proofs.{some_build, one_build_outcome}
+use Rattle.sig_images.proofs.{any_build, some_build, one_build_outcome}
 use Rattle.sig_images.proofs.laws.builds_have_one_outcome.Goals as goal
+
+pub returns-clause-every : goal.returns-clause-every
+returns-clause-every c = λ held program. any_build held program c.programs_have_a_verdict.ensures
 
 pub returns-clause-some : goal.returns-clause-some
 returns-clause-some c = some_build

@@ -1,5 +1,8 @@
-use Rattle.sig_images.proofs.{some_exec, one_exec_outcome}
+use Rattle.sig_images.proofs.{any_exec, some_exec, one_exec_outcome}
 use Rattle.sig_images.proofs.laws.execs_have_one_outcome.Goals as goal
+
+pub returns-clause-every : goal.returns-clause-every
+returns-clause-every c = any_exec
 
 pub returns-clause-some : goal.returns-clause-some
 returns-clause-some c = some_exec
