@@ -1,1 +1,2 @@
-process SUM = (? integer A, B ! integer Y) Y := A + B;
+process SUM = (? integer A, B ! integer Y)
+  Y := A + B;

@@ -17,7 +17,8 @@ from sigcrun import NO_DASH
 
 TOP = os.path.dirname(os.path.dirname(os.path.realpath(__file__)))
 # What ./sigc says of a build goes on to standard error at once; all else is sigc's own.
-OF_BUILD = re.compile(r"sigc: ")
+OF_BUILD = re.compile(r"sigc: (?!no program|the program is older)")
+TOLD = set()
 NO_PROGRAM = 70
 
 
@@ -51,7 +52,9 @@ class Call:
         for line in self.ran.stderr:
             text = line.decode("latin-1").rstrip("\n")
             if OF_BUILD.match(text):
-                print(text, file=sys.stderr, flush=True)
+                if text not in TOLD:
+                    print(text, file=sys.stderr, flush=True)
+                TOLD.add(text)
             else:
                 self.said.append(text)
 
@@ -126,7 +129,7 @@ class Program:
     """A program's text, and what sigc answers about it, with the user's name of its file."""
 
     def __init__(self, files, path):
-        self.files, self.text = files, text_of(path)
+        self.files, self.text = files, program_text(path)
         self.path = files.copied(path, self.text)
 
     def asked(self, command, *words):
@@ -137,12 +140,20 @@ class Program:
             raise Refused(self.files.renamed(refusal.line), refusal.status) from None
 
 
-def text_of(path):
-    """The text of a file that the user names, a byte a character; Refused, as sigc words it, where it cannot be read."""
+def program_text(path):
+    """The text of a program's file; Refused, as sigc words it, where it cannot be read or is too long."""
+    return text_of(path, sigclib.PROGRAM_BYTES, "program longer than {} bytes", 1)
+
+
+def text_of(path, most=sigclib.MOST_BYTES, long="{path}: longer than {} bytes", status=4):
+    """The text of a file that the user names, a byte a character; Refused, as sigc words it, where it cannot be read or is too long."""
     if path == "-":
         raise Refused(f"error: {NO_DASH}", 5)
     try:
-        return sigclib.read_text(path)
+        text = sigclib.read_text(path, most)
+        if len(text) > most:
+            raise Refused(f"error: {long.format(most, path=path)}", status)
+        return text
     except FileNotFoundError:
         raise Refused(f"error: {path}: not found", 5) from None
     except OSError:

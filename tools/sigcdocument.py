@@ -5,6 +5,7 @@ keeps its text a byte a character, as sigc sees it, and turns places over where 
 """
 import sigccause
 import sigcedit
+import sigcformat
 import sigchints
 import sigclint
 import sigcmend
@@ -94,6 +95,17 @@ class Document:
     def action(self, title, edits, refusal):
         changes = [{"range": self.range(it.start, it.end), "newText": shown(it.text)} for it in edits]
         return {"title": title, "kind": "quickfix", "diagnostics": [self.diagnostic(refusal)], "edit": {"changes": {self.uri: changes}}}
+
+    def formatting(self):
+        """The edit that lays the text out; ValueError where it is no program, and no edit where it is laid out."""
+        try:
+            made = sigcformat.formatted(self.text)
+        except sigcformat.Unformatted as refusal:
+            raise ValueError(f"not laid out: {refusal}") from None
+        if made == self.text:
+            return []
+        edit = sigcedit.difference(self.text, made)
+        return [{"range": self.range(edit.start, edit.end), "newText": shown(edit.text)}]
 
     # Names.
 

@@ -13,6 +13,8 @@ KINDS = ("integer", "boolean", "event")
 # What stands deeper than this in one another sigc does not take.
 DEEPEST = 64
 MOST_EQUATIONS = 1_000_000
+# The most bytes that sigc reads of a program, and of any other file.
+PROGRAM_BYTES, MOST_BYTES = 1_048_576, 67_108_864
 PIECE = re.compile(
     r"(?P<blank>[ \t\r\n]+|%[^%]*%)"
     r"|(?P<name>[A-Za-z][A-Za-z0-9_]*)"
@@ -65,10 +67,11 @@ class Numbered(NamedTuple):
     text: str
 
 
-def read_text(path):
-    """A file's text, a byte a character, so that columns are those of sigc."""
+def read_text(path, most=MOST_BYTES):
+    """A file's text, a byte a character, so that columns are those of sigc; of a longer one a byte more than these, so
+    that an endless device has an end here too."""
     with open(path, "rb") as it:
-        return it.read().decode("latin-1")
+        return it.read(most + 1).decode("latin-1")
 
 
 def tokens_of(text):

@@ -116,7 +116,8 @@ class Process:
 
 
 def pieces_of(text):
-    """The tokens of a text, or of its beginning, the end last, and the offsets of bytes that begin none."""
+    """The tokens of a text, the end last, and the offsets of bytes that begin none. Of a text with more than MOST_PIECES
+    tokens these are those of its beginning, and the end stands where they stop: `is_whole` tells that."""
     found, strange, at, line, begun = [], [], 0, 1, 0
     while at < len(text) and len(found) < MOST_PIECES:
         piece = PIECE.match(text, at)
@@ -132,12 +133,18 @@ def pieces_of(text):
     return [*found, Piece("end", "", line, at - begun + 1, at, at)], strange
 
 
+def is_whole(pieces, text):
+    """Whether pieces are those of the whole text."""
+    return pieces[-1].end == len(text)
+
+
 class Reader:
     """A walk over the pieces of a text; `wanted` holds what was asked for at the piece where it stands."""
 
     def __init__(self, text):
         self.text = text
         self.pieces, self.strange = pieces_of(text)
+        self.is_cut = not is_whole(self.pieces, text)
         self.at, self.wanted, self.open, self.depth = 0, [], [], 0
         self.processes, self.faults = [], []
 

@@ -9,6 +9,8 @@ import tempfile
 import weakref
 from typing import NamedTuple
 
+import sigclib
+
 TOP = os.path.dirname(os.path.dirname(os.path.realpath(__file__)))
 SECONDS = 120
 NO_DASH = "- is no file here: to read from standard input, name /dev/stdin"
@@ -19,6 +21,10 @@ PROBE = "process P = (? integer A ! integer Y) Y := A;\n"
 
 class NoProgram(Exception):
     """There is no program sigc to call, with the reason."""
+
+
+class TooLong(Exception):
+    """A program's file is longer than sigc takes, with sigc's line."""
 
 
 class Answer(NamedTuple):
@@ -39,9 +45,9 @@ def program():
     """The program's file: what $SIGC names, or else what ./sigc at the top of the repository runs, built where that is needed."""
     if os.environ.get("SIGC"):
         return os.environ["SIGC"]
-    ran = subprocess.run([f"{TOP}/sigc", "--which"], stdout=subprocess.PIPE, text=True)
+    ran = subprocess.run([f"{TOP}/sigc", "--which"], capture_output=True, text=True)
     if ran.returncode:
-        raise NoProgram(f"{TOP}/sigc has no program to run")
+        raise NoProgram(ran.stderr.strip().removeprefix("sigc: ") or f"{TOP}/sigc has no program to run")
     return ran.stdout.strip()
 
 
@@ -53,7 +59,7 @@ def built_program():
     made = [f"{TOP}/crates/sigc/out/{it}" for it in names]
     found = next((it for it in made if os.path.isfile(it)), None)
     if found is None:
-        raise NoProgram(f"no program is built: call {TOP}/sigc once, or name one by SIGC")
+        raise NoProgram(f"no program is built: call {TOP}/tools/sigc-build, or name one by SIGC")
     return found
 
 
@@ -117,8 +123,10 @@ def read_program(path):
     """The text of a program's file, a byte a character."""
     if path == "-":
         raise OSError(2, NO_DASH, None)
-    with open(path, "rb") as it:
-        return it.read().decode("latin-1")
+    text = sigclib.read_text(path, sigclib.PROGRAM_BYTES)
+    if len(text) > sigclib.PROGRAM_BYTES:
+        raise TooLong(f"error: program longer than {sigclib.PROGRAM_BYTES} bytes")
+    return text
 
 
 def guarded(main):
@@ -136,6 +144,9 @@ def guarded(main):
     except NoProgram as error:
         print(f"{name}: {error}", file=sys.stderr)
         return 70
+    except TooLong as error:
+        print(error, file=sys.stderr)
+        return 1
     except OSError as error:
         where = f"{error.filename}: " if error.filename else ""
         print(f"{name}: {where}{error.strerror}", file=sys.stderr)

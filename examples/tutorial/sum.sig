@@ -1,2 +1,2 @@
 process SUM = (? integer A, B ! integer Y)
-Y := A + B;
+  Y := A + B;

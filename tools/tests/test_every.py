@@ -24,12 +24,16 @@ WAYS = {
     "sigc": [("check", "FILE")],
     "sigc-automaton": [("FILE",)],
     "sigc-build": [],
+    "sigc-c": [("FILE", "-o", "OUT")],
     "sigc-caret": [("check", "--lint", "--explain", "FILE"), ("run", "PROGRAM", "FILE"), ("run", "--lint", "FILE", "FLOWS"), ("judge", "PROGRAM", "FILE"), ("play", "PROGRAM", "FLOWS", "FILE")],
+    "sigc-clocks": [("FILE",)],
     "sigc-equations": [("FILE",)],
+    "sigc-format": [("FILE",), ("--check", "FILE")],
     "sigc-header": [("FILE",)],
     "sigc-image": [("FILE",)],
     "sigc-install": [],
     "sigc-lsp": [],
+    "sigc-prove": [("FILE", "--never-ends")],
     "sigc-run": [("FILE", "FLOWS"), ("PROGRAM", "FILE"), ("PROGRAM", "FLOWS", "--want", "FILE")],
     "sigc-table": [("check", "FILE", "TABLE"), ("check", "PROGRAM", "FILE"), ("flows", "FILE"), ("flows", "TABLE", "--program", "FILE"), ("rows", "FILE"), ("rows", "FILE", "FLOWS"), ("rows", "PROGRAM", "FILE")],
     "sigc-trace": [("FILE", "FLOWS"), ("PROGRAM", "FILE")],
@@ -40,7 +44,7 @@ WAYS = {
 # Where an empty file is one of those that are right.
 EMPTY = {("PROGRAM", "FILE"), ("run", "PROGRAM", "FILE"), ("rows", "PROGRAM", "FILE"), ("play", "PROGRAM", "FLOWS", "FILE")}
 # Scripts that ask sigc of a program, with the words that they begin with.
-ASKING = ("clocks2dot", "sigc", "sigc-caret", "sigc-run", "sigc-table", "sigc-trace", "sigc-view", "sigc-why", "trace2vcd")
+ASKING = ("clocks2dot", "sigc", "sigc-c", "sigc-caret", "sigc-run", "sigc-table", "sigc-trace", "sigc-view", "sigc-why", "trace2vcd")
 # Scripts that run a program, with the words behind the files or before them.
 RUNNING = {"sigc-trace": (), "trace2vcd": (), "sigc-run": ("--workers", "0"), "sigc-table": ("rows",)}
 LONG = "process LONG = (? event T ! integer N)\n(| N := (N $ init 0) + 1 | N ^= T |);\n"
@@ -70,6 +74,7 @@ class Table(unittest.TestCase):
         self.room = tempfile.mkdtemp(prefix="sigc-test-")
         self.addCleanup(shutil.rmtree, self.room)
         self.words = {"PROGRAM": f"{EXAMPLES}/sum.sig", "FLOWS": f"{EXAMPLES}/sum.flows", "TRACE": f"{EXAMPLES}/down.trace"}
+        self.words["OUT"] = f"{self.room}/out"
         self.words["TABLE"] = written(self.room, "right.csv", "A,B,Y\n1,2,3\n")
 
     def filled(self, words, file):
@@ -131,6 +136,21 @@ class Table(unittest.TestCase):
         cases += [(script, words, it, files[it]) for script, ways in WAYS.items() for words in ways[1:] for it in ("picture", "/dev/null")]
         self.assertEqual(list(filter(None, map(self.fault_of, cases))), [])
 
+    @needs_sigc
+    def test_an_endless_file_has_an_end(self):
+        begun = time.monotonic()
+        cases = [(script, words, "endless", "/dev/zero") for script, ways in WAYS.items() for words in ways]
+        self.assertEqual(list(filter(None, map(self.fault_of, cases))), [])
+        for script in ("sigc-why", "sigc-trace", "sigc-caret"):
+            self.assertIn("program longer than 1048576 bytes", ran(script, *self.filled(WAYS[script][0], "/dev/zero")).stderr)
+        self.assertIn("longer than 67108864 bytes", ran("sigc-trace", self.words["PROGRAM"], "/dev/zero").stderr)
+        self.assertLess(time.monotonic() - begun, 300)
+
+    @needs_sigc
+    def test_a_name_does_not_steer_a_terminal(self):
+        path = written(self.room, "p\x1b[31m.sig", "process P = (? integer A ! ) B := A;\n")
+        self.assertNotIn("\x1b", ran("sigc-caret", "check", path).stderr)
+
     def test_a_folder_that_is_none(self):
         for path in ("/dev/null/inside", f"{TOP}/README.md"):
             with mock.patch.dict(os.environ, {"SIGC": sys.executable}):
@@ -140,7 +160,7 @@ class Table(unittest.TestCase):
 
     @needs_sigc
     def test_a_dash_is_told_what_to_name(self):
-        for script in (it for it, ways in WAYS.items() if ways):
+        for script in (it for it, ways in WAYS.items() if ways and it != "sigc-format"):
             with self.subTest(script):
                 self.assertIn("/dev/stdin", ran(script, *self.filled(WAYS[script][0], "-")).stderr)
 

@@ -11,6 +11,7 @@ from unittest import mock
 from helping import EXAMPLES, NEEDS_SIGC, TOOLS, only_with, program, ran
 
 import sigcdocument
+import sigcformat
 import sigcrun
 
 URI = "file:///p.sig"
@@ -122,6 +123,18 @@ class Conversation(unittest.TestCase):
         self.assertIn("process COUNT = {integer MAX}", self.client.at("hover", 7, 12)["result"]["contents"]["value"])
         self.assertIsNone(self.client.at("hover", 0, 3)["result"])
 
+    def test_layout(self):
+        messy = TIMER.replace(" := ", ":=").replace("\n |", "  |")
+        self.client.open(messy)
+        edits = self.client.ask("textDocument/formatting", {"textDocument": {"uri": URI}, "options": {}})["result"]
+        self.assertEqual(changed(messy, edits), sigcformat.formatted(messy))
+        self.assertNotEqual(edits, [])
+        for text, has_error in ((sigcformat.formatted(messy), False), ("process P", True)):
+            self.client.notify("textDocument/didChange", {"textDocument": {"uri": URI}, "contentChanges": [{"text": text}]})
+            self.client.read()
+            answer = self.client.ask("textDocument/formatting", {"textDocument": {"uri": URI}, "options": {}})
+            self.assertEqual(("error" in answer, answer.get("result") or []), (has_error, []))
+
     def test_completion_and_symbols(self):
         with open(f"{EXAMPLES}/watch.sig", encoding="utf-8") as it:
             self.client.open(it.read())
@@ -138,6 +151,9 @@ class Conversation(unittest.TestCase):
         self.assertEqual(self.client.ask("textDocument/hover", {})["error"]["code"], -32602)
         self.client.write(b"{")
         self.assertEqual(self.client.read()["error"]["code"], -32700)
+        for body in (b'{"id": 9, "method": ["a"]}', b"[" * 100_000, b'{"id": ' + b"[" * 50_000):
+            self.client.write(body)
+            self.assertIn("error", self.client.read())
         self.client.open("\x00\ud83d\ude00 nonsense")
         self.client.at("completion", 99, 99)
         self.assertIsNone(self.client.at("definition", 99, 99)["result"])
@@ -165,6 +181,9 @@ class Places(unittest.TestCase):
     def test_the_end_of_the_input(self):
         self.assertEqual(ran("sigc-lsp", given=b"").returncode, 1)
         self.assertEqual(ran("sigc-lsp", given=os.urandom(2000)).returncode, 1)
+        for length in ("\u00b2", "-4", "9" * 8, "9" * 4000, "12345678"):
+            done = ran("sigc-lsp", given=f"Content-Length: {length}\r\n\r\n{{}}".encode("latin-1"))
+            self.assertEqual((done.returncode, done.stderr), (1, b""), length)
 
 
 class Files(unittest.TestCase):

@@ -1,0 +1,388 @@
+"""sigc-c: what its programs in C write is what sigc runs write."""
+import os
+import shutil
+import subprocess
+import tempfile
+import unittest
+from unittest import mock
+
+from calling import EXAMPLES, SIGC, TUTORIAL, needs_sigc, pairs, ran, sigc, written
+from helping import only_with
+from programs import Program
+
+import compiled
+import sigcimage
+import sigcnames
+import sigcsource
+import sigcsteps
+import sigcunit
+import sigcvalues
+import sigcwrite
+
+needs_gcc = only_with(shutil.which("gcc"), "gcc is not installed: the tests of sigc-c that compile are left out")
+needs_clang = only_with(shutil.which("clang"), "clang is not installed: the test of sigc-c with it is left out")
+COUNT = int(os.environ.get("SIGC_C_PROGRAMS", "40"))
+LIMIT = 40
+
+# Programs with flows that end in each way, and names that C has for itself.
+SPECIAL = {
+    "quotient": ("process P = (? integer A, B ! integer Q) Q := A / B;", ["A -9223372036854775808 7\nB 1 0", "A 7 -7 -9223372036854775808\nB -2 2 -1"]),
+    "remainder": ("process P = (? integer A, B ! integer Q) Q := A modulo B;", ["A -9223372036854775808 -7 7 5\nB -1 3 -3 0"]),
+    "by constants": (
+        "process P = (? integer A ! integer Q, R, S, T) (| Q := A / -1 | R := A modulo -1 | S := A / 3 | T := A modulo -3 |);",
+        ["A 7 -7 9223372036854775807 -9223372036854775808"],
+    ),
+    "of constants": ("process P = (? integer A ! integer Q, R) (| Q := 7 / A | R := -7 modulo A |);", ["A 2 -2 -1 0"]),
+    "by zero": ("process P = (? integer A; boolean B ! integer Y, Z) (| Y := (A when B) / 0 | Z := A + 1 | B ^= A |);", ["A 1 2 3\nB false false true"]),
+    "always by zero": ("process P = (? integer A ! integer Y) Y := A / 0;", ["A 1", ""]),
+    "unread": (
+        "process P = (? integer A, B ! integer Y) (| Y := A | U := A / B | V := A + B | W := A < B | X := V $ init 3 | Z := X + 1 |)\n"
+        "where integer U, V, X, Z; boolean W; end;",
+        ["A 1 2 3\nB 1 2 0", "A 1 9223372036854775807\nB 1 1", "A 9223372036854775806 1\nB 1 1"],
+    ),
+    "comparisons": (
+        "process P = (? integer A; boolean B; event E ! boolean C, D, F, G, H, I, J, K, L, M)\n"
+        "(| C := A <= 9223372036854775807 | D := A > 9223372036854775807 | F := A = A | G := A /= A | H := A < A | I := B = true\n"
+        " | J := B /= false | K := B and true | L := B xor E | M := (3 <= A) = (A >= 3) | A ^= B ^= E |);",
+        ["A 3 -9223372036854775808 9223372036854775807\nB true false true\nE true true true"],
+    ),
+    "signs": ("process P = (? integer A ! integer Y, Z) (| Y := - A | Z := - - - A - -5 |);", ["A 1 -2 -9223372036854775808", "A 9223372036854775807"]),
+    "products": (
+        "process P = (? integer A, B ! integer Y) Y := A * B;",
+        ["A 3 -3 3037000500\nB 7 -7 3037000500", "A -9223372036854775808\nB -1", "A -1 0\nB -9223372036854775808 5", "A 4611686018427387904 -4611686018427387904 4611686018427387904\nB -2 2 2"],
+    ),
+    "no input": ("process P = (? ! integer Y) Y := (Y $ init 9223372036854775770) + 1;", [""]),
+    "no output": ("process P = (? integer A ! ) X := A + 1 where integer X; end;", ["A 1 9223372036854775807"]),
+    "no state": ("process P = (? boolean A; event E ! boolean Y; event F) (| Y := not A | F := E ^* (when A) | E ^= when A |);", ["A true false true\nE true"]),
+    "names": (
+        "process NAMES = (? integer int, state, context, INT64_MAX, int64_t, NAMES_step, value, add ! integer main, r_NAMES_int, linux, errno, a)\n"
+        "(| main := int + state | r_NAMES_int := context + INT64_MAX | linux := int64_t - NAMES_step | errno := value * add | a := linux / errno\n"
+        " | int ^= state ^= context ^= INT64_MAX ^= int64_t ^= NAMES_step ^= value ^= add |);",
+        ["int 1\nstate 2\ncontext 3\nINT64_MAX 4\nint64_t 5\nNAMES_step 6\nvalue 7\nadd 8"],
+    ),
+    "trigraphs": ("process P = (? integer A ! integer Y) Y := A + 1; % what??/ \n *" + "/ and /" + "* \xe9 %", ["A 1"]),
+}
+# A call whose names C would take for others.
+COPIES = """process P = (? integer F_1_X ! integer Y, Z) (| Y := F(F_1_X) | Z := F(F_1_X + 1) |)
+where process F = (? integer X ! integer Y) (| Y := X + Z | Z := Y $ init 1 |) where integer Z; end; end;"""
+
+
+def built(text):
+    """The image of a program; None where it is refused."""
+    with tempfile.TemporaryDirectory() as room:
+        done = subprocess.run([SIGC, "build", written(room, "p.sig", text)], capture_output=True)
+    return done.stdout if done.returncode == 0 else None
+
+
+def wanted(text, flows, limit):
+    """What `sigc run` writes and says."""
+    with tempfile.TemporaryDirectory() as room:
+        done = sigc("run", written(room, "p.sig", text), written(room, "p.flows", flows), "--workers", "0", "--instants", str(limit))
+    return done.stdout + done.stderr
+
+
+def drawn(count, first=0):
+    """Programs drawn at random that are accepted, each with the texts of three flows."""
+    found, seed = [], first
+    while len(found) < count:
+        program = Program(seed)
+        text, seed = program.text(), seed + 1
+        image = built(text)
+        if image is not None:
+            found.append((text, image, [program.flows() for _ in range(3)]))
+    return found
+
+
+def special():
+    rows = [(text, flows) for text, flows in SPECIAL.values()] + [(COPIES, ["F_1_X 1 2 3", "F_1_X 9223372036854775807"])]
+    return [(text, built(text), flows) for text, flows in rows]
+
+
+class Compared:
+    """Programs with what sigc says of their runs, to be compared with what C says."""
+
+    def __init__(self, rows):
+        self.rows = rows
+        self.wanted = [(at, flows, wanted(text, flows, LIMIT)) for at, (text, _, all_flows) in enumerate(rows) for flows in all_flows]
+
+    def differences(self, folder, bounds=None, **how):
+        """The runs that differ, or what a compiler says."""
+        units = [compiled.unit_of(image, text, f"p{at}", bounds) for at, (text, image, _) in enumerate(self.rows)]
+        many = compiled.Many(folder, units, **how)
+        if many.failed.returncode:
+            return [many.failed.stderr]
+        said, errors = many.run([(at, LIMIT, flows) for at, flows, _ in self.wanted])
+        if errors or len(said) != len(self.wanted):
+            return [errors or "the run has stopped"]
+        return [(self.rows[at][0], flows, one, other) for (at, flows, one), other in zip(self.wanted, said) if one != other]
+
+
+@needs_sigc
+@needs_gcc
+class Runs(unittest.TestCase):
+    def setUp(self):
+        room = tempfile.TemporaryDirectory()
+        self.addCleanup(room.cleanup)
+        self.room = room.name
+
+    def test_programs_of_every_kind(self):
+        self.assertEqual(Compared(special()).differences(self.room), [])
+
+    def test_drawn_programs(self):
+        self.assertEqual(Compared(drawn(COUNT)).differences(self.room), [])
+
+    def test_narrow_types(self):
+        """The flows of drawn programs have values from -20 to 20; those of the others any."""
+        self.assertEqual(Compared(drawn(COUNT // 2, 2000)).differences(f"{self.room}/drawn", bounds=(-20, 20)), [])
+        self.assertEqual(Compared(special()).differences(f"{self.room}/special", bounds=()), [])
+
+    @needs_clang
+    def test_clang(self):
+        rows = Compared([*special(), *drawn(6, 1000)])
+        how = {"compiler": ("clang", "-O1"), "flags": compiled.STRICT}
+        self.assertEqual(rows.differences(f"{self.room}/wide", **how), [])
+        self.assertEqual(Compared(rows.rows[-6:]).differences(f"{self.room}/narrow", bounds=(-20, 20), **how), [])
+
+    def test_no_builtins_of_a_compiler(self):
+        with mock.patch.dict(sigcunit.HELPERS, {name: (result, test, "") for name, (result, test, _) in sigcunit.HELPERS.items()}):
+            self.assertEqual(Compared(special()).differences(self.room), [])
+
+    def test_examples(self):
+        rows = []
+        for program, flows in pairs(EXAMPLES) + pairs(TUTORIAL):
+            with open(program, encoding="latin-1") as it, open(flows, encoding="latin-1") as values:
+                text = it.read()
+                rows.append((text, built(text), [values.read()]))
+        rows = [it for it in rows if it[1] is not None]
+        self.assertGreaterEqual(len(rows), 20)
+        self.assertEqual(Compared(rows).differences(self.room), [])
+
+
+# Faults planted in the writer: what stands there, and what stands there then.
+FAULTS = {
+    "a comparison takes equals": (sigcvalues, "compared", lambda found: lambda name, a, b: found({"Lt": "Le", "Ge": "Gt"}.get(name, name), a, b)),
+    "a negation is lost": (sigcvalues, "negation", lambda found: lambda it: it),
+    "a conjunction is its first part": (sigcvalues, "conjunction", lambda found: lambda parts: found(parts[:1])),
+    "a memory begins with another value": (sigcwrite, "first_value", lambda found: lambda memory: str(1 - memory.init)),
+    "a memory is not set": (sigcwrite.Step, "store", lambda found: lambda self, it: None),
+    "two cases have each other's values": (sigcwrite.Step, "chosen", lambda found: lambda self, *words: turned(found(self, *words))),
+    "a guard is not asked": (sigcwrite.Step, "enter", lambda found: lambda self, guard: None),
+    "a place is one column off": (sigcsource.Source, "place", lambda found: lambda self, it: (it.line, it.column + 1)),
+    "the quotient of the least integer and -1 is not looked at": (sigcwrite.Step, "fail", lambda found: lambda self, test, what, it: None if what == sigcwrite.OVERFLOW and it.fields[1] == "Div" else found(self, test, what, it)),
+    "outputs come in another order": (sigcwrite.Step, "used", lambda found: lambda self: (self.outputs.reverse(), found(self))[1]),
+    "an overflow is not told": (sigcwrite.Step, "fail", lambda found: lambda self, test, what, it: None if what == sigcwrite.OVERFLOW and it.fields[1] == "Sub" else found(self, test, what, it)),
+    "a memory is set before what may fail": (sigcwrite.Step, "write", lambda found: hasty),
+}
+
+
+def turned(cases):
+    values = [it for _, it in cases][::-1]
+    return [(test, value) for (test, _), value in zip(cases, values)]
+
+
+def hasty(step):
+    """Writes a step that sets each memory as soon as its value is there."""
+    for it in step.statements:
+        if it.operation.kind != "Store":
+            step.statement(it)
+        for store in step.statements:
+            if store.operation.kind == "Store" and store.operation.fields[1] == it.operation.target:
+                step.store(store)
+    for signal in step.outputs:
+        step.output(signal)
+    step.close()
+    step.line("return 0;")
+    return step
+
+
+@needs_sigc
+@needs_gcc
+class Faults(unittest.TestCase):
+    def test_each_is_found(self):
+        rows = Compared([*special(), *drawn(3)])
+        for name, (where, what, planted) in FAULTS.items():
+            with self.subTest(name), tempfile.TemporaryDirectory() as room:
+                with mock.patch.object(where, what, planted(getattr(where, what))):
+                    self.assertNotEqual(rows.differences(room, compiler=("gcc", "-O0"), flags=["-w"]), [])
+
+
+TWO = r"""#include <stdio.h>
+#include "THERMOSTAT.h"
+struct THERMOSTAT_context { int64_t next; int heats; };
+int r_THERMOSTAT_TEMPERATURE(THERMOSTAT_context *it, int64_t *value) { *value = it->next; return 1; }
+void w_THERMOSTAT_HEATING(THERMOSTAT_context *it, int value) { it->heats = value; }
+int main(void)
+{
+    THERMOSTAT_state first, second;
+    THERMOSTAT_context warm = {22, -1}, cold = {17, -1};
+    THERMOSTAT_init(&first);
+    THERMOSTAT_init(&second);
+    for (int i = 0; i < 2; i++) {
+        int one = THERMOSTAT_step(&first, &warm), other = THERMOSTAT_step(&second, &cold);
+        printf("%d %d %d %d\n", one, warm.heats, other, cold.heats);
+        cold.next = warm.next = 20;
+    }
+    return 0;
+}
+"""
+
+
+@needs_sigc
+@needs_gcc
+class Written(unittest.TestCase):
+    """What sigc-c writes, with its main."""
+
+    def setUp(self):
+        room = tempfile.TemporaryDirectory()
+        self.addCleanup(room.cleanup)
+        self.room = room.name
+
+    def made(self, program, *words, flags=("-O1", *compiled.SANITIZED)):
+        """The program that runs it, compiled with all warnings, as errors, and the sanitizers."""
+        folder = f"{self.room}/c"
+        shutil.rmtree(folder, ignore_errors=True)
+        done = ran("sigc-c", program, "-o", folder, *words)
+        self.assertEqual((done.stdout, done.stderr, done.returncode), ("", "", 0))
+        files = sorted(f"{folder}/{it}" for it in os.listdir(folder) if it.endswith(".c"))
+        done = subprocess.run(["gcc", *flags, *compiled.STRICT, "-I", folder, "-o", f"{self.room}/it", *files], capture_output=True, text=True)
+        self.assertEqual((done.stderr, done.returncode), ("", 0))
+        return f"{self.room}/it"
+
+    def said(self, made, *words, given=""):
+        done = subprocess.run([made, *words], input=given, capture_output=True, text=True, encoding="latin-1", cwd=self.room)
+        return done.stdout, done.stderr, done.returncode
+
+    def as_sigc(self, made, program, *words):
+        with mock.patch("os.getcwd", lambda: self.room):
+            done = subprocess.run([SIGC, "run", program, "--workers", "0", *words], capture_output=True, text=True, encoding="latin-1", cwd=self.room)
+        self.assertEqual(self.said(made, *words), (done.stdout, done.stderr, done.returncode))
+
+    def test_runs_of_files(self):
+        made = self.made(f"{EXAMPLES}/watch.sig")
+        self.as_sigc(made, f"{EXAMPLES}/watch.sig", f"{EXAMPLES}/watch.flows")
+        self.as_sigc(made, f"{EXAMPLES}/watch.sig", f"{EXAMPLES}/watch.flows", "--instants", "3")
+        for at, text in enumerate(FLOWS):
+            with self.subTest(text[:60]):
+                self.as_sigc(made, f"{EXAMPLES}/watch.sig", os.path.basename(written(self.room, f"{at}.flows", text)), "--instants=6")
+        self.as_sigc(made, f"{EXAMPLES}/watch.sig", "nothing")
+        self.as_sigc(made, f"{EXAMPLES}/watch.sig", self.room)
+        for words in ([], ["a", "b"], ["a", "--instants"], ["a", "--instants", "0"], ["a", "--instants", "1000000001"], ["a", "--workers", "1"], ["a", "--instants=1", "--instants=1"]):
+            self.assertEqual(self.said(made, *words), ("", "error: these words are not a command\n", 2))
+
+    def test_overflow(self):
+        made = self.made(f"{EXAMPLES}/overflow.sig")
+        self.as_sigc(made, f"{EXAMPLES}/overflow.sig", f"{EXAMPLES}/overflow.flows")
+        self.assertEqual(self.said(made, f"{EXAMPLES}/overflow.flows")[2], 3)
+
+    def test_names_of_headers(self):
+        text, (flows,) = SPECIAL["names"]
+        for name in ("main", "string", "stdint", "NAMES", "int"):
+            program = written(self.room, "p.sig", text.replace("process NAMES", f"process {name}"))
+            self.as_sigc(self.made(program, flags=["-O0"]), program, os.path.basename(written(self.room, "p.flows", flows)))
+        self.assertEqual(sorted(os.listdir(f"{self.room}/c")), ["int.c", "int.h", "main.c"])
+        self.made(program, "--prefix", "string", flags=["-O0"])
+        self.assertEqual(sorted(os.listdir(f"{self.room}/c")), ["main.c", "string_process.c", "string_process.h"])
+
+    def test_values_outside_of_a_range(self):
+        made = self.made(f"{EXAMPLES}/thermostat.sig", "--range", "TEMPERATURE=-5..300")
+        flows = written(self.room, "p.flows", "TEMPERATURE -5 300 301")
+        self.assertEqual(self.said(made, flows), ("HEATING true\nHEATING false\n", "end: input TEMPERATURE out of range after 2 instants\n", 3))
+        self.assertEqual(self.said(made, written(self.room, "p.flows", "TEMPERATURE 65536")), ("", "end: input TEMPERATURE out of range after 0 instants\n", 3))
+
+    def test_mains_of_every_kind(self):
+        """Programs without inputs, without outputs, and with events alone: nothing of their mains is unused."""
+        for name in ("no input", "no output", "no state"):
+            program = written(self.room, "p.sig", SPECIAL[name][0])
+            made = self.made(program)
+            self.as_sigc(made, program, os.path.basename(written(self.room, "p.flows", SPECIAL[name][1][0])), "--instants", "50")
+            if shutil.which("clang"):
+                done = subprocess.run(["clang", *compiled.STRICT, "-fsyntax-only", f"{self.room}/c/main.c"], capture_output=True, text=True)
+                self.assertEqual(done.stderr, "")
+        with open(f"{self.room}/events.sig", "w", encoding="ascii") as it:
+            it.write("process P = (? event E ! event F) F := E;\n")
+        self.assertEqual(self.said(self.made(f"{self.room}/events.sig"), "--live", given="true\ntrue\n"), ("F true\nF true\n", "end: no line after 2 instants\n", 0))
+
+    def test_live_rows(self):
+        made = self.made(f"{EXAMPLES}/watch.sig")
+        rows = "true true 5\ntrue false .\ntrue false 7\ntrue true .\n\ntrue x 1\ntrue true\ntrue\ntrue false . . .\ntrue false .\n"
+        wrong = "V: it does not come at this instant, and the line has a value\nV: it comes at this instant, and the line has no value\n"
+        wrong += "REQ: this is no value of it\n"
+        wrong += "".join(f"{it}, where 3 are wanted, `.` where an input does not come: TICK REQ V\n" for it in ("2 words", "1 word", "5 words"))
+        self.assertEqual(self.said(made, "--live", given=rows), ("HELD 5\nALARM false\nHELD 5\nALARM false\nHELD 5\nALARM false\n", f"{wrong}end: no line after 3 instants\n", 0))
+        self.assertEqual(self.said(made, "--live", "--instants=1", given=rows), ("HELD 5\nALARM false\n", "end: limit after 1 instants\n", 0))
+
+    def test_live_values(self):
+        made = self.made(f"{EXAMPLES}/watch.sig")
+        said = self.said(made, "--live=values", given="true\ntrue\nx\n5\ntrue\nfalse\ntrue")
+        self.assertEqual(said, ("HELD 5\nALARM false\nHELD 5\nALARM false\n", "TICK? REQ? V? an integer is wanted\nV? TICK? REQ? TICK? REQ? end: input REQ exhausted after 2 instants\n", 0))
+
+    def test_answers_come_at_once(self):
+        made = self.made(f"{EXAMPLES}/sum.sig")
+        with subprocess.Popen([made, "--live"], stdin=subprocess.PIPE, stdout=subprocess.PIPE, stderr=subprocess.PIPE) as it:
+            for one, other in ((1, 2), (40, 2)):
+                it.stdin.write(f"{one} {other}\n".encode())
+                it.stdin.flush()
+                self.assertEqual(it.stdout.readline(), f"Y {one + other}\n".encode())
+            it.stdin.close()
+            self.assertEqual(it.stderr.read(), b"end: no line after 2 instants\n")
+
+    def test_two_instances(self):
+        self.made(f"{EXAMPLES}/thermostat.sig")
+        main = written(f"{self.room}/c", "main.c", TWO)
+        done = subprocess.run(["gcc", *compiled.STRICT, "-o", f"{self.room}/two", main, f"{self.room}/c/THERMOSTAT.c"], capture_output=True, text=True)
+        self.assertEqual(done.stderr, "")
+        self.assertEqual(self.said(f"{self.room}/two")[0], "0 0 0 1\n0 0 0 1\n")
+
+    def test_what_a_step_wants(self):
+        """Nothing but stdint.h and what the header tells."""
+        self.made(f"{EXAMPLES}/watch.sig")
+        done = subprocess.run(["gcc", "-O2", "-c", "-o", f"{self.room}/o", f"{self.room}/c/WATCH.c"], capture_output=True, text=True)
+        self.assertEqual(done.stderr, "")
+        if shutil.which("nm"):
+            wanted = subprocess.run(["nm", "-u", f"{self.room}/o"], capture_output=True, text=True).stdout.split()
+            self.assertEqual(set(wanted) - {"U", "_GLOBAL_OFFSET_TABLE_"}, {f"r_WATCH_{it}" for it in ("TICK", "REQ", "V")} | {"w_WATCH_HELD", "w_WATCH_ALARM"})
+
+
+FLOWS = [
+    "", "\n \n\t\r\n", "TICK true true\r\nREQ false false\n", "flows 2\nTICK true*5\nREQ true*2 false*3\nV 1 -0002", "flows 2\nV 1*0", "flows 2\nV 9223372036854775808*2",
+    "flows 2\nV 9223372036854775808*0", "flows 2\nV *2", "flows 2\nV 1*-2", "flows 2\nV 1*", "flows 2\nV 1*4000001", "flows 2\nV 0*4000000\nREQ true", "flows 2 \nTICK true", "flows 2 3\n", "flows 3\n",
+    "TICK true\nW 1", "TICK true false", "REQ 1", "V 1 2x", "V 9223372036854775807 -9223372036854775808", "V 9223372036854775808", "V -9223372036854775809", "V 1-", "V -", "V 1 \x01",
+    "2 1", "V\r1", "V 1\r", "\xe9", "V 1*2", "TICK\ttrue  true\nREQ true\tfalse\nV 00000000000000000000000000007\n", "V 1\0 2", "V 99999999999999999999x",
+]
+
+
+class Words(unittest.TestCase):
+    @needs_sigc
+    def test_refusals(self):
+        with tempfile.TemporaryDirectory() as room:
+            for program, words, line, status in (
+                (f"{EXAMPLES}/buttons.sig", [], "error 3:28: no root: RED and GREEN are independent\n", 1),
+                (f"{room}/nothing", [], f"error: {room}/nothing: not found\n", 5),
+                (f"{EXAMPLES}/sum.sig", ["--range", "A=5..1"], "sigc-c: --range wants an integer input and its bounds once, as A=0..100, and not 'A=5..1'\n", 2),
+                (f"{EXAMPLES}/sum.sig", ["--range", "Y=1..5"], "sigc-c: --range wants an integer input and its bounds once, as A=0..100, and not 'Y=1..5'\n", 2),
+                (f"{EXAMPLES}/sum.sig", ["--prefix", "a-b"], "sigc-c: --prefix wants letters, digits and _, a letter first, and not 'a-b'\n", 2),
+            ):
+                done = ran("sigc-c", program, "-o", f"{room}/c", *words)
+                self.assertEqual((done.stdout, done.stderr, done.returncode), ("", line, status))
+
+    @needs_sigc
+    def test_files_of_others(self):
+        with tempfile.TemporaryDirectory() as room:
+            for name in ("main.c", "SUM.h", "SUM.c"):
+                shutil.rmtree(f"{room}/c", ignore_errors=True)
+                for _ in range(2):
+                    self.assertEqual(ran("sigc-c", f"{EXAMPLES}/sum.sig", "-o", f"{room}/c").returncode, 0)
+                written(f"{room}/c", name, "int main(void)\n{\n}\n/* Written by sigc-c */\n")
+                before = {it: os.stat(f"{room}/c/{it}").st_mtime_ns for it in os.listdir(f"{room}/c")}
+                done = ran("sigc-c", f"{EXAMPLES}/sum.sig", "-o", f"{room}/c")
+                self.assertEqual((done.stdout, done.stderr, done.returncode), ("", f"sigc-c: {room}/c/{name} is there and was not written by sigc-c\n", 1))
+                self.assertEqual({it: os.stat(f"{room}/c/{it}").st_mtime_ns for it in os.listdir(f"{room}/c")}, before)
+
+    def test_names(self):
+        names = sigcnames.Names("P")
+        self.assertEqual([names.fresh(it) for it in ("A", "A", "COUNT#1.N", "int", "P_step", "INT64_MAX", "x_t", "state")], ["A", "A_", "COUNT_1_N", "int_", "own_P_step", "INT64_MAX_", "x_t_", "state_"])
+        self.assertEqual([sigcnames.stem(it) for it in ("SUM", "main", "STRING")], ["SUM", "main_process", "STRING_process"])
+
+
+if __name__ == "__main__":
+    unittest.main()
