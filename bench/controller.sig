@@ -2,8 +2,9 @@
   from below 18 on until the temperature is above 21, and fills from below 20 on until the level is above 80. It drains above 95.
   ALARM tells that a limit was passed at three instants in a row, and FAULT the temperature of the last such instant. STARTS counts
   the starts, and comes at those alone; AGE counts the instants since the last one. LOWEST and HIGHEST are the extreme levels. %
-process TANK = (? integer TEMPERATURE, LEVEL; boolean START, STOP
-                ! boolean RUNNING, HEATING, FILLING, DRAINING, ALARM; integer FAULT, STARTS, AGE, LOWEST, HIGHEST)
+process TANK =
+  (? integer TEMPERATURE, LEVEL; boolean START, STOP
+   ! boolean RUNNING, HEATING, FILLING, DRAINING, ALARM; integer FAULT, STARTS, AGE, LOWEST, HIGHEST)
 (| TEMPERATURE ^= LEVEL ^= START ^= STOP
  | RUNNING := (WAS or START) and not STOP
  | WAS := RUNNING $ init false
@@ -32,7 +33,9 @@ process TANK = (? integer TEMPERATURE, LEVEL; boolean START, STOP
  | ZHIGHEST := HIGHEST $ init 0
  | HIGHEST ^= LEVEL
  |)
-where boolean WAS, COLD, SHORT, PASSED; integer COUNTED, ZCOUNTED, ZFAULT, ZAGE, ZLOWEST, ZHIGHEST;
+where
+  boolean WAS, COLD, SHORT, PASSED;
+  integer COUNTED, ZCOUNTED, ZFAULT, ZAGE, ZLOWEST, ZHIGHEST;
   process HYSTERESIS = {integer LOW, HIGH} (? integer X ! boolean ON)
   (| ON := (true when (X < LOW)) default (false when (X > HIGH)) default OLD
    | OLD := ON $ init false

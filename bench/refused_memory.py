@@ -29,6 +29,8 @@ TWO = (
     "(| Y := A + 1 | Z := B + 1 | A ^= B |);"
 )
 TWO_FLOWS = "A 1 2 3 4 5 6\nB 10 20 30\n"
+ROOTS = "process TWO = (? integer U, V ! integer Y, Z)\n(| Y := U + 1 | Z := V + 1 |);"
+AT_PACES = "pace_1 true false true\npace_2 true true false\nU 1 2\nV 10 20\n"
 EVENTS = "act 1\n" + 8 * "act 0\n" + "act 1\nact 1\nact 7\n"
 
 # of each row the words, and the files that they name
@@ -41,6 +43,10 @@ ROWS = {
     "one-thread": (["run", "P", "F", "--workers", "0"], {"P": TWO, "F": TWO_FLOWS}),
     "play-end": (["play", "P", "F", "V", "--capacity", "1"], {"P": SUM, "F": "A 1 2\nB 10\n", "V": EVENTS}),
     "load-3": (["load", "1", "3"], {}),
+    "paced": (["run", "P", "F", "--pace"], {"P": ROOTS, "F": AT_PACES}),
+    "build-down": (["build", "P"], {"P": DOWN}),
+    # the image I is what the program builds of B, with ample memory
+    "exec-down": (["exec", "I", "F"], {"B": DOWN, "F": "A 3 2\n"}),
 }
 
 REFUSED = (7, b"", b"error: out of memory\n")
@@ -87,6 +93,10 @@ def tried(sigc, name, library):
         for file, text in files.items():
             with open(os.path.join(folder, file), "w", encoding="ascii") as out:
                 out.write(text)
+        if "I" in words:
+            (_, image, _), _ = run([sigc, "build", "B"], folder)
+            with open(os.path.join(folder, "I"), "wb") as out:
+                out.write(image)
         ample, _ = run([sigc, *words], folder)
         if ample[0] == 2:
             print(f"{name}: not a command of this program")

@@ -15,11 +15,14 @@ Part `exec`: the same programs as in `run`, as images: `SIGC exec` and `SIGC run
 texts, and prints the least processor times of five runs each and their ratio; and the least wall times of `SIGC build`, and of an
 `exec` of one instant, from its begin to its end.
 
+Part `c`: the same programs as in `run`, written in C by tools/sigc-c and compiled by gcc -O2, and bench/run.c: files and text included,
+with the texts compared. Then the steps alone, over values in memory, with the outputs added up: prints the time of an instant.
+
 Part `workers`: the 12 stages and a program of four clusters of 64 operations each with 0, 1, 2 and 4 workers. Compares the
 texts, and prints the least wall time of five runs, its ratio to that of 0 workers, and the processor time.
 
 Part `items`: a program that hands 32 signals from one cluster to another, and the same in one cluster, with 1 and 2 workers
-at the capacities 1, 16 and 64: the difference of the two wall times, for one signal and instant, is what an item of a link costs.
+at the capacities 1, 17 and 64: the difference of the two wall times, for one signal and instant, is what an item of a link costs.
 Then the same of a program of which a cluster gives a signal to another that gives one back in the same instant: what a refused
 item costs, for which an actor waits.
 
@@ -28,12 +31,16 @@ processors, on one, and beside twelve busy processes. Compares the texts, and pr
 most 30 times that without workers. Beside them it prints that of bench/rests.c, in which 64 threads that do nothing rest and are
 woken once an instant, as those of 64 workers are.
 
-Part `pay`: chains of 1 to 250 sums, and of as many remainders, in one, two and four clusters that share nothing but their
-clock, without workers and with as many as there are clusters, and the longest ones with 1, 2, 4 and 8 workers at the capacities
-1, 16 and 256. Prints each ratio of wall times, and from how many operations a cluster a run with workers is the faster one.
+Part `pay`: chains of 16 to 250 sums, and of as many remainders, in two and four clusters that share nothing but their clock,
+each of which hands 1, 4 or 16 signals to the collector, without workers and with as many as there are clusters: prints a table
+of the ratios of wall times by operations and signals of a cluster, in the median of nine runs in turn. Then the longest ones with
+1, 2, 4 and 8 workers at the capacities 1, 17 and 256. The capacity is 17 in the table: with two workers and the capacity of 16,
+which are the settings of words that ask for none, a run is made without workers where these would not pay.
 """
+import array
 import os
 import random
+import statistics
 import subprocess
 import sys
 import tempfile
@@ -42,6 +49,11 @@ import time
 from check import stages
 
 HERE = os.path.dirname(os.path.abspath(__file__))
+TOOLS = os.path.join(HERE, "..", "tools")
+sys.path.insert(0, TOOLS)
+import sigcimage
+
+C_KINDS = {"integer": "int64_t", "boolean": "int"}
 EXAMPLES = os.path.join(HERE, "..", "examples")
 INSTANTS = 1_000_000
 STAGES = 12
@@ -53,9 +65,14 @@ BUSY = 12
 EVENTS = 300_000
 MOST_RATIO = 30
 # how many operations each of so many clusters has, up to the most that 512 signals allow
-CHAINS = {1: (1, 16, 64, 128, 250), 2: (1, 16, 64, 128, 250), 4: (1, 16, 32, 64, 125)}
-CAPACITIES = (1, 16, 256)
+CHAINS = {2: (16, 64, 128, 250), 4: (16, 32, 64, 125)}
+# how many signals each of them hands to the collector
+HANDED_ON = (1, 4, 16)
+# one more than the capacity where none is given
+CAPACITY = 17
+CAPACITIES = (1, CAPACITY, 256)
 ROUNDS = 5
+TURNS = 9
 
 
 def truth(draws):
@@ -101,18 +118,21 @@ def stages_flows(draws):
     return flows
 
 
-def chains(count, operations, operation):
-    """Clusters that share nothing but their clock, each with a chain of operations: `operation(before, j)` is the j-th."""
+def chains(count, operations, operation, handed_on=1):
+    """Clusters that share nothing but their clock, each with a chain of operations of which the last ones are outputs:
+    `operation(before, j)` is the j-th."""
     name = lambda i, j: f"X{i}n{j}" if j else f"A{i}"
     clusters = range(count)
-    inputs, outputs = ", ".join(f"A{i}" for i in clusters), ", ".join(name(i, operations) for i in clusters)
+    inside = operations - handed_on
+    inputs = ", ".join(f"A{i}" for i in clusters)
+    outputs = ", ".join(name(i, j) for i in clusters for j in range(inside + 1, operations + 1))
     pragmas = "\n".join(
         f'RunOn {{{", ".join(name(i, j) for j in range(operations + 1))}}} "{i}"' for i in clusters
     )
     equations = [f"{name(i, j)} := {operation(name(i, j - 1), j)}" for i in clusters for j in range(1, operations + 1)]
     if count > 1:
         equations.append(" ^= ".join(f"A{i}" for i in clusters))
-    locals_ = ", ".join(name(i, j) for i in clusters for j in range(1, operations))
+    locals_ = ", ".join(name(i, j) for i in clusters for j in range(1, inside + 1))
     where = f"where integer {locals_}; end" if locals_ else ""
     return (
         f"process CHAINS = (? integer {inputs} ! integer {outputs})\npragmas\n{pragmas}\nend pragmas\n"
@@ -215,7 +235,7 @@ def put_files(folder, program, made):
     return max(map(len, made.values()))
 
 
-def run_words(sigc, workers, capacity=16):
+def run_words(sigc, workers, capacity=CAPACITY):
     return [sigc, "run", "program.sig", "flows", "--workers", str(workers), "--capacity", str(capacity)]
 
 
@@ -316,6 +336,83 @@ def events_in_turn(sigc, folder, play):
     )
 
 
+EMBEDDED = """#include <stdio.h>
+#include <stdlib.h>
+#include "{p}.h"
+static int64_t *values[{inputs}];
+static size_t taken[{inputs}], counts[{inputs}];
+static uint64_t sum;
+{calls}
+int main(int count, char **words)
+{{
+    {p}_state state;
+    unsigned long instants = 0;
+    for (int i = 0; i < {inputs}; i++) {{
+        FILE *file = fopen(words[i + 2], "rb");
+        fseek(file, 0, SEEK_END);
+        counts[i] = (size_t)ftell(file) / sizeof(int64_t);
+        rewind(file);
+        values[i] = malloc((counts[i] + 1) * sizeof(int64_t));
+        counts[i] = fread(values[i], sizeof(int64_t), counts[i], file);
+        fclose(file);
+    }}
+    {p}_init(&state);
+    while (count > 1 && words[1][0] == '1' && {p}_step(&state, 0) == 0) {{
+        instants++;
+    }}
+    printf("%lu %llu\\n", instants, (unsigned long long)sum);
+    return 0;
+}}
+"""
+
+
+def embedded(folder, inputs, outputs):
+    """A C program that has the values in memory, and adds up the outputs: its time is that of steps."""
+    calls = [
+        f"int r_p_{name}(p_context *it{'' if kind == 'event' else f', {C_KINDS[kind]} *value'}) {{ (void)it; if (taken[{at}] == counts[{at}]) return 0; "
+        + ("" if kind == "event" else f"*value = ({C_KINDS[kind]})values[{at}][taken[{at}]]; ") + f"taken[{at}]++; return 1; }}"
+        for at, (kind, name) in enumerate(inputs)
+    ]
+    calls += [f"void w_p_{name}(p_context *it{'' if kind == 'event' else f', {C_KINDS[kind]} value'}) {{ (void)it; sum += (uint64_t){1 if kind == 'event' else 'value'}; }}" for kind, name in outputs]
+    with open(os.path.join(folder, "c", "embedded.c"), "w", encoding="ascii") as file:
+        file.write(EMBEDDED.format(p="p", inputs=len(inputs), calls="\n".join(calls)))
+    made = os.path.join(folder, "embedded")
+    subprocess.run(["gcc", "-O2", "-o", made, "c/embedded.c", "c/p.c"], cwd=folder, check=True)
+    return made
+
+
+def put_values(folder, flows):
+    """Each flow as a file of integers."""
+    numbers = {"true": 1, "false": 0}
+    for name, values in flows.items():
+        with open(os.path.join(folder, f"{name}.values"), "wb") as file:
+            array.array("q", (numbers[it] if it in numbers else int(it) for it in values)).tofile(file)
+
+
+def in_c(sigc, folder):
+    plain_run = plain_program(folder)
+    for name, (program, flows) in PROGRAMS.items():
+        made = flows(random.Random(1))
+        instants = put_files(folder, program(), made)
+        env = {**os.environ, "SIGC": sigc}
+        subprocess.run([os.path.join(TOOLS, "sigc-c"), "program.sig", "-o", "c", "--prefix", "p"], cwd=folder, check=True, env=env)
+        subprocess.run(["gcc", "-O2", "-o", "whole", "c/p.c", "c/main.c"], cwd=folder, check=True)
+        own, _, peak = measured([os.path.join(folder, "whole"), "flows"], folder, "own")
+        plain, _, plain_peak = measured([plain_run, name, "flows"], folder, "plain")
+        assert read(folder, "own") == read(folder, "plain"), f"{name}: the texts differ"
+        put_values(folder, made)
+        image = sigcimage.image_of(subprocess.run([sigc, "build", "program.sig"], cwd=folder, capture_output=True, check=True).stdout)
+        signals = [(it.kind, it.name) for it in image.signals[: image.inputs + image.outputs]]
+        words = [f"{name}.values" for _, name in signals[: image.inputs]]
+        program_alone = embedded(folder, signals[: image.inputs], signals[image.inputs :])
+        alone, _, _ = measured([program_alone, "1", *words], folder, "alone")
+        begun, _, _ = measured([program_alone, "0", *words], folder, "begun")
+        print(
+            f"{name} in C: {own:.3f} s ({1e9 * own / instants:.0f} ns an instant, {peak:.0f} MB), by hand {plain:.3f} s ({plain_peak:.0f} MB), "
+            f"ratio {own / plain:.2f}; steps alone {1e9 * (alone - begun) / instants:.0f} ns an instant"
+        )
+
+
 def with_workers(sigc, folder):
     for name, program, flows in (("stages", stages(STAGES), stages_flows), ("heavy", heavy(), chains_flows(CLUSTERS))):
         instants = put_files(folder, program, flows(random.Random(1)))
@@ -341,10 +438,10 @@ def cost_apart(sigc, folder, program, tried):
 
 
 def items(sigc, folder):
-    tried = [(workers, capacity) for workers in (1, 2) for capacity in (1, 16, 64)]
+    tried = [(workers, capacity) for workers in (1, 2) for capacity in (1, CAPACITY, 64)]
     for (workers, capacity), cost in cost_apart(sigc, folder, handing, tried).items():
         print(f"an item of a link, {workers} workers, capacity {capacity}: {1e9 * cost / HANDED:.0f} ns")
-    for (workers, _), cost in cost_apart(sigc, folder, returning, ((1, 16), (2, 16))).items():
+    for (workers, _), cost in cost_apart(sigc, folder, returning, ((1, CAPACITY), (2, CAPACITY))).items():
         print(f"an item that an actor waits for, {workers} workers: {1e9 * cost / 2:.0f} ns")
 
 
@@ -373,32 +470,36 @@ def crowd(sigc, folder):
                 other.wait()
 
 
-def ratio_of(sigc, folder, workers, capacity, alone):
-    """The wall time of a run with workers, over that of one without, whose text it must give."""
-    _, wall, _ = measured(run_words(sigc, workers, capacity), folder, "own")
-    assert read(folder, "own") == read(folder, "alone"), "the texts differ"
-    return wall / alone
+def ratio_of(sigc, folder, workers, capacity):
+    """The wall time of a run with workers over that of one without, whose text it must give: the median of runs in turn."""
+    ratios = []
+    for _ in range(TURNS):
+        _, alone, _ = measured(run_words(sigc, 0), folder, "alone", 1)
+        _, wall, _ = measured(run_words(sigc, workers, capacity), folder, "own", 1)
+        assert read(folder, "own") == read(folder, "alone"), "the texts differ"
+        ratios.append(wall / alone)
+    return statistics.median(ratios)
 
 
 def paying(sigc, folder):
     for kind, operation in (("sums", one_more), ("remainders", remainder)):
         for count, lengths in CHAINS.items():
-            ratios = {}
+            print(f"| {count} clusters of {kind}, {count} workers | " + " | ".join(f"{it} signals" for it in HANDED_ON) + " |")
+            print("|---" * (1 + len(HANDED_ON)) + "|")
             for operations in lengths:
-                put_files(folder, chains(count, operations, operation), chains_flows(count, INSTANTS // 20)(random.Random(1)))
-                _, alone, _ = measured(run_words(sigc, 0), folder, "alone")
-                ratios[operations] = ratio_of(sigc, folder, count, 16, alone)
-            row = ", ".join(f"{operations}: {ratio:.2f}" for operations, ratio in ratios.items())
-            least = min((operations for operations, ratio in ratios.items() if ratio < 1), default=None)
-            pays = f"pays from {least}" if least else "does not pay"
-            print(f"{count} clusters of {kind} with {count} workers, wall time over that without, by operations a cluster: {row}; {pays}")
-            if count > 1:
-                for workers in (1, 2, 4, 8):
-                    row = ", ".join(f"{it}: {ratio_of(sigc, folder, workers, it, alone):.2f}" for it in CAPACITIES)
-                    print(f"    {lengths[-1]} {kind} in each of {count} clusters with {workers} workers, by capacity: {row}")
+                cells = []
+                for handed_on in HANDED_ON:
+                    program = chains(count, operations, operation, handed_on)
+                    put_files(folder, program, chains_flows(count, INSTANTS // 20)(random.Random(1)))
+                    cells.append(f"{ratio_of(sigc, folder, count, CAPACITY):.2f}")
+                print(f"| {operations} operations each | " + " | ".join(cells) + " |", flush=True)
+            put_files(folder, chains(count, lengths[-1], operation), chains_flows(count, INSTANTS // 20)(random.Random(1)))
+            for workers in (1, 2, 4, 8):
+                row = ", ".join(f"{it}: {ratio_of(sigc, folder, workers, it):.2f}" for it in CAPACITIES)
+                print(f"    {lengths[-1]} {kind} in each of {count} clusters with {workers} workers, by capacity: {row}")
 
 
-PARTS = {"run": beside_c, "exec": beside_run, "play": played_beside_c, "workers": with_workers, "items": items, "crowd": crowd, "pay": paying}
+PARTS = {"run": beside_c, "exec": beside_run, "c": in_c, "play": played_beside_c, "workers": with_workers, "items": items, "crowd": crowd, "pay": paying}
 
 
 def main():

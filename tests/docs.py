@@ -8,7 +8,8 @@ In a document (README.md, docs/*.md, examples/README.md, tools/README.md)
   - a fence ```console holds commands, each a line that begins with `$ `, and behind each what it prints:
     standard output, then standard error. A last line `(status N)` tells the status; without it, sigc's own
     status has to fit the line that it says. Where the fence begins with `# to come`, the command may also be
-    refused as one that is not built yet;
+    refused as one that is not built yet; where it begins with `# needs gcc`, or another program, it is skipped,
+    with a line, where there is no such program;
   - in a table with the columns Command, Standard output, Standard error and Status each row is such a command.
 
 Commands run in the document's folder, in which `examples` and `tools` are those of the repository, and `sigc` is
@@ -101,7 +102,7 @@ class Documents:
 
     def __init__(self, program, room):
         self.program, self.room = program, room
-        self.passed = self.failed = 0
+        self.passed = self.failed = self.skipped = 0
         os.makedirs(f"{room}/bin")
         shutil.copyfile(program, f"{room}/bin/sigc")
         os.chmod(f"{room}/bin/sigc", 0o755)
@@ -138,6 +139,15 @@ class Documents:
             if is_to_come:
                 print(f"{where}: runs now, so the words 'to come' may go: {command}")
 
+    def is_skipped(self, where, lines):
+        """Whether a fence needs a program that is not there; then a line says so."""
+        needed = re.fullmatch(r"# needs (\S+)", lines[0] if lines else "")
+        if not needed or shutil.which(needed[1]):
+            return False
+        self.skipped += 1
+        print(f"{where}: skipped: {needed[1]} is not installed")
+        return True
+
     def row(self, where, cells, folder):
         """Runs a row of a table of commands. A cell of words without any code is not compared."""
         words, *said, status = cells
@@ -166,6 +176,8 @@ class Documents:
             where = f"{name}:{at}"
             if kind == "row":
                 self.row(where, lines, folder)
+            elif kind == "console" and self.is_skipped(where, lines):
+                unused = {it: place for it, place in unused.items() if not any(it in line for line in lines)}
             elif kind == "console":
                 is_to_come = bool(lines) and lines[0].startswith("# to come")
                 found = commands_of(lines)
@@ -275,6 +287,8 @@ def main():
                 run.fail(page, f"this link leads nowhere: {target}")
             for crate, test in missing_tests():
                 run.fail("crates/sig_tests_tool/README.md", f"there is no test {test} in {crate}")
+    if run.skipped:
+        print(f"{run.skipped} fences skipped")
     print(f"{run.passed} passed, {run.failed} failed")
     return 1 if run.failed or not run.passed else 0
 

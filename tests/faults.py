@@ -9,7 +9,9 @@ Runs SIGC on rows of every command, each with its output, its line and its statu
   cuts      each file is cut between two reads, and the answer must be that to the files as they are left;
   streams   standard output and standard error are a full device, a closed pipe, closed, or a file at its greatest size;
   files     each file is a directory, an endless device, a pipe, a path through a file, or a name that is too long;
-  stacks    the deepest programs that the limits allow, with stacks of 64 KB and more.
+  lengths   an image that would be too long, over streams that take nothing too;
+  stacks    the deepest programs that the limits allow, with stacks of 64 KB and more;
+  nodes     an image whose verifying takes more nodes than there are, where this part is named: it takes many seconds.
 
 Each answer must be the row's, or, where a fault befell the command, the status and the line that docs/formats.md gives for it,
 with a beginning of the row's output. With less stack than docs/limits.md asks for, a command may also end by a signal.
@@ -47,6 +49,11 @@ TWO = (
 )
 ROOTS = "process TWO = (? integer U, V ! integer Y, Z)\n(| Y := U + 1 | Z := V + 1 |);"
 SQUARE = "process SQ = (? integer A ! integer Y)\nY := A * A;"
+# two parts, each with a clock of its own
+PARTS_OF_TWO = (
+    "process TWO = (? event TICK; boolean UP ! boolean GO; integer N)\n"
+    "(| N ^= TICK | GO := not UP | N := (N $ init 3) + 3 |);"
+)
 COUNTER = "process N = (? ! integer N) N := (N $ init 0) + 1;"
 # three clusters, each of which hands the next one what it counts
 THREE = (
@@ -61,6 +68,29 @@ PLAYED = (
     "events done\nactor 0 2 1 ended\nactor 1 1 2 running\nlink 0 0\nlink 1 0\nword 2 2\nfinish\nY 11\n"
 )
 EXHAUSTED = "end: input {} exhausted after {} instants\n"
+
+
+def number(value):
+    return value.to_bytes(4, "big").decode("latin-1")
+
+
+def image(signals, outputs, ops):
+    """The image of an operation on inputs without clocks: integer signals, each with the line and the column of its read."""
+    inputs = [it for it in signals if len(it) == 3]
+    counts = (len(signals), len(inputs), outputs, 0, 0, 0, len(inputs) + len(ops))
+    text = "SIGIMG01" + "".join(number(it) for it in counts)
+    text += "".join("\0" + number(len(name)) + name for name, *_ in signals)
+    text += "".join("\0" + number(1) + number(line) + number(col) + number(i) for i, (_, line, col) in enumerate(inputs))
+    for line, col, target, function, operands in ops:
+        text += "\1" + number(1) + number(line) + number(col) + number(target) + chr(function) + chr(len(operands))
+        text += "".join("\0" + number(it) for it in operands)
+    return text
+
+
+ADD, MULTIPLY = 12, 14
+SUM_IMAGE = image([("A", 1, 26), ("B", 1, 29), ("Y",)], 1, [(1, 51, 2, ADD, [0, 1])])
+SQUARE_IMAGE = image([("A", 1, 26), ("Y",)], 1, [(2, 8, 1, MULTIPLY, [0, 0])])
+AT_PACES = "pace_1 true false true\npace_2 true true false\nU 1 2\nV 10 20\n"
 counted = "".join(f"N {i}\nM {2 * i}\nK {3 * i}\n" for i in range(1, COUNTED + 1))
 
 ROWS = {
@@ -96,8 +126,40 @@ ROWS = {
         ["play", "P", "F", "V", "--capacity", "1"], {"P": SUM, "F": "A 1 2\nB 10\n", "V": EVENTS},
         PLAYED, EXHAUSTED.format("B", 1), 0,
     ),
+    "paced": Row(
+        ["run", "P", "F", "--pace", "--workers", "0"], {"P": ROOTS, "F": AT_PACES}, "Y 2\nZ 11\nZ 21\nY 3\n",
+        EXHAUSTED.format("pace_1", 3), 0,
+    ),
+    "paced-check": Row(["check", "--pace", "P"], {"P": ROOTS}, "accepted\n", "", 0),
+    "paced-code": Row(
+        ["code", "P", "--pace"], {"P": PARTS_OF_TWO},
+        "actor 0\n0 0 read pace_1\n1 1 send 0\n2 2 read TICK\n3 4 read pace_2\n4 5 send 1\n5 6 read UP\n6 8 compute GO\n"
+        "7 9 send 2\n8 10 delay #2:39\n9 12 compute N\n10 13 send 3\n11 14 compute #pace_1\n12 16 compute #pace_2\n"
+        "13 18 store #2:39\n14 20 report 4\nactor 1\n0 1 receive 0\n1 5 receive 1\n2 9 receive 2\n3 13 receive 3\n"
+        "4 20 collect 4\n5 21 commit\n",
+        "", 0,
+    ),
+    "paced-play": Row(
+        ["play", "--capacity=1", "P", "F", "--pace", "V", "--instants=3"],
+        {"P": ROOTS, "V": "act 0\nlook 1\nact 1\n",
+         "F": "U -3 -2 6 -999 0 -2\nV -2 5 6\npace_1" + 7 * " true" + "\npace_2" + 9 * " true"},
+        "events done\nactor 0 1 1 running\nactor 1 1 0 running\nlink 0 0\nlink 1 0\nlink 2 0\nlink 3 0\nlink 4 0\nword none\n"
+        "finish\nY -2\nZ -1\nY -1\nZ 6\nY 7\nZ 7\n",
+        "end: limit after 3 instants\n", 0,
+    ),
+    "build": Row(["build", "P"], {"P": SUM}, SUM_IMAGE, "", 0),
+    "build-refused": Row(["build", "P"], {"P": ROOTS}, "", "error 1:26: no root: U and V are independent\n", 1),
+    "exec": Row(
+        ["exec", "I", "F"], {"I": SUM_IMAGE, "F": "A 1 2 3\nB 10 20\n"}, "Y 11\nY 22\n", EXHAUSTED.format("B", 2), 0
+    ),
+    "exec-overflow": Row(
+        ["exec", "I", "F"], {"I": SQUARE_IMAGE, "F": "A 3 4000000000 5\n"}, "Y 9\n", "end: overflow at 2:8 after 1 instants\n", 3
+    ),
+    "exec-broken": Row(
+        ["exec", "I", "F"], {"I": SUM_IMAGE[:116], "F": "A 1\nB 1\n"}, "", "error: I: bad image at byte 113\n", 4
+    ),
     "load": Row(
-        ["load", "1", "3", "--workers", "2"], {},
+        ["load", "1", "3", "--workers", "2", "--capacity", "7"], {},
         "stages 3\ninstants 20000\nbytes 137834\nsum 6685077\n", EXHAUSTED.format("A", 20000), 0,
     ),
     # outputs of several writes
@@ -144,7 +206,7 @@ class Faults:
         shutil.rmtree(folder, ignore_errors=True)
         os.makedirs(folder)
         for name, text in row.files.items():
-            with open(f"{folder}/{name}", "w", encoding="ascii") as out:
+            with open(f"{folder}/{name}", "w", encoding="latin-1", newline="") as out:
                 out.write(text)
         return folder
 
@@ -300,7 +362,7 @@ def streams(faults):
 
 def too_long(name, words):
     """What is said of an endless file, which the command reads by its place among the words."""
-    if name == words[1]:
+    if name == words[1] and words[0] != "exec":
         return [(True, "", "error: program longer than 1048576 bytes\n", 1)]
     return [(True, "", f"error: {name}: longer than 67108864 bytes\n", 4)]
 
@@ -309,7 +371,7 @@ def files(faults):
     """Each file is something else."""
     for name, row in ROWS.items():
         for file in row.files:
-            if name == "words" or name == "missing":
+            if name in ("words", "missing") or name == "exec-broken" and file == "F":
                 continue
             failed, missing = [(True, "", f"error: {{}}: {it}\n", 5) for it in ("read failed", "not found")]
             folder = faults.put(row)
@@ -319,7 +381,7 @@ def files(faults):
             os.rmdir(f"{folder}/{file}")
             faults.compare(f"{name}: {file} is not there", faults.run(row), named([missing], file))
             os.symlink("/dev/zero", f"{folder}/{file}")
-            if name in ("check", "judge", "run", "play"):
+            if name in ("check", "judge", "run", "play", "build", "exec"):
                 faults.compare(f"{name}: {file} is endless", faults.run(row), too_long(file, row.words))
             for other, dues in (("P/X", [failed, missing]), (300 * "N", [failed]), ("", [missing])):
                 words = [other if it == file else it for it in row.words]
@@ -337,7 +399,7 @@ def piped(faults, name, row, file):
     words = ["/dev/stdin" if it == file else it for it in row.words]
     heard, end = os.pipe()
     with os.fdopen(end, "wb") as out:
-        out.write(row.files[file].encode("ascii"))
+        out.write(row.files[file].encode("latin-1"))
     with os.fdopen(heard, "rb") as stream:
         ran = faults.run(row._replace(words=words), stdin=stream)
     faults.compare(f"{name}: {file} is a pipe", ran, [(True, row.out, row.err.replace(f" {file}:", " /dev/stdin:"), row.status)])
@@ -402,7 +464,7 @@ DEEP = {
 }
 COMMANDS = {
     "print": ["print", "P"], "check": ["check", "P"], "judge": ["judge", "P", "T"],
-    "run": ["run", "P", "F", "--workers", "0"], "run-2": ["run", "P", "F", "--workers", "2"],
+    "run": ["run", "P", "F", "--workers", "0"], "run-2": ["run", "P", "F", "--workers", "2", "--capacity", "7"],
 }
 # a deep program that has a kernel of too many signals
 TOO_MANY = "calls-and-operators"
@@ -450,7 +512,66 @@ def least_stacks(faults):
         print(f"{name}: " + ", ".join(f"{command} {it}" for command, it in found.items()), flush=True)
 
 
-PARTS = {"calls": calls, "pieces": pieces, "cuts": cuts, "streams": streams, "files": files, "stacks": stacks}
+def long_image():
+    """A program whose image has more than 67,108,864 bytes: 84 copies of a process with a long name, with which their signals' names begin."""
+    name = "N" * 399_371
+    outputs = ", ".join(f"Y{i}" for i in range(84))
+    calls_ = " | ".join(f"Y{i} := M(A)" for i in range(84))
+    inner = f"process {name} = (? integer X ! integer Z) Z := X + 1;"
+    return (
+        f"process LONG = (? integer A ! integer {outputs})\n(| {calls_} |)\n"
+        f"where process M = (? integer X ! integer Z) Z := {name}(X) where {inner} end; end;\n"
+    )
+
+
+def lengths(faults):
+    """The command whose image would be too long."""
+    row = Row(["build", "P"], {"P": long_image()}, "", "error: image longer than 67108864 bytes\n", 10)
+    faults.put(row)
+    faults.compare("a long image", faults.run(row), [whole(row)])
+    for kind, opening in (("full", lambda: open("/dev/full", "wb")), ("closed pipe", closed_pipe)):
+        for streams_ in (["stdout"], ["stderr"], ["stdout", "stderr"]):
+            with opening() as stream:
+                ran = faults.run(row, **{it: stream for it in streams_})
+            faults.compare(f"a long image: {kind} {streams_}", ran, [whole(row)])
+
+
+def multiplexer(data=24, choosers=5):
+    """An image whose verifying takes more than 8,000,000 nodes: operation k writes Y where condition k holds and the last
+    conditions are the digits of k. So where Y was written is a multiplexer, whose data come first."""
+    count = data + choosers
+    numbers = {}
+
+    def node(place, low, high):
+        return numbers.setdefault((place, low, high), len(numbers) + 2)
+
+    def guard(k):
+        at = 1
+        for digit in reversed(range(choosers)):
+            at = node(data + digit, 0, at) if k >> digit & 1 else node(data + digit, at, 0)
+        return node(k, 0, at)
+
+    guards = [guard(k) for k in range(data)]
+    text = "SIGIMG01" + "".join(number(it) for it in (count + 1, count, 1, count, 0, len(numbers), count + data))
+    text += "".join("\1" + number(3) + f"B{k:02}" for k in range(count)) + "\0" + number(1) + "Y"
+    text += "".join(number(k) for k in range(count)) + "".join(number(it) for fields in numbers for it in fields)
+    text += "".join("\0" + number(1) + number(1) + number(k + 1) + number(k) for k in range(count))
+    return text + "".join("\3" + number(at) + number(2) + number(k + 1) + number(count) + number(0) + number(k) for k, at in enumerate(guards))
+
+
+def nodes(faults):
+    """Images that are verified with a few nodes, and with more than there are."""
+    few = Row(["exec", "I", "F"], {"I": multiplexer(8), "F": ""}, "", EXHAUSTED.format("B00", 0), 0)
+    many = Row(["exec", "I", "F"], {"I": multiplexer(), "F": ""}, "", "error: 8000000 diagram nodes\n", 8)
+    for name, row in (("few nodes", few), ("many nodes", many)):
+        faults.put(row)
+        faults.compare(name, faults.run(row), [whole(row)])
+
+
+PARTS = {
+    "calls": calls, "pieces": pieces, "cuts": cuts, "streams": streams, "files": files, "lengths": lengths, "stacks": stacks, "nodes": nodes,
+}
+ON_CALL = ("nodes",)
 NEED_LIBRARY = ("calls", "pieces", "cuts")
 
 
@@ -472,7 +593,7 @@ def main():
             least_stacks(faults)
             return 0
         is_compiled = faults.compile()
-        for part in words or PARTS:
+        for part in words or [it for it in PARTS if it not in ON_CALL]:
             if part in NEED_LIBRARY and not is_compiled:
                 print(f"faults.py: there is no gcc, so {part} are left out")
             else:
