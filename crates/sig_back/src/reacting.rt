@@ -1,9 +1,9 @@
 //! What the kernel of a plan does.
 
 ghost use Rattle.sig_back.specs.Reacting.{HasLongestTraces};
-ghost use Rattle.sig_meaning.specs.Reactions.{HasOneReaction};
+ghost use Rattle.sig_meaning_laws.specs.Reactions.{HasOneReaction};
 
-use sig_meaning::{accepted_plans_have_one_reaction, longest_traces_exist};
+use sig_meaning_laws::{accepted_plans_have_one_reaction, longest_traces_exist};
 use sig_plan::Plan;
 
 /// A law: the kernel of a plan has one reaction, and so longest traces.

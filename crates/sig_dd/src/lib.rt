@@ -6,6 +6,7 @@
 mod answer;
 mod cache;
 mod eval;
+mod keyed;
 mod laws;
 mod meets;
 mod node;
@@ -21,6 +22,7 @@ mod support;
 mod supports;
 
 pub use answer::DdAnswer;
+pub use keyed::Keyed;
 pub use laws::{
     a_store_may_be_shared, calls_add_up, calls_lead_on, equal_functions_have_one_ref,
     fixed_variables_make_no_difference, functions_depend_on_their_parts, older_references_stay,

@@ -6,6 +6,8 @@ ghost use Rattle.sig_dd.specs.Operand.{side_of};
 ghost use Rattle.sig_dd.specs.inner.Meets.{HoldsPair, Meets, NoneMeets, IsPairStep};
 
 use crate::answer::DdAnswer;
+use crate::cache::room_beside;
+use crate::keyed::Keyed;
 use crate::node::Ref;
 use crate::operand::Operand;
 use crate::store::Store;
@@ -70,14 +72,14 @@ impl Store {
         ensures value { IfOk result (λ met. IsTrue met
             ↔ Meets self.now.nodes (record { first = first; second = second }) truth) }
     {
-        let mut apart = HashSet::new(self.allocator());
+        let mut apart = HashSet::with_hasher(self.allocator(), self.hashing());
         self.meets_in(&mut apart, Pair { first, second }, truth)
     }
 
     /// The same of a pair, where some pairs are known not to meet. Each pair is split once.
     fn meets_in(
         &self,
-        apart: &mut HashSet<Pair>,
+        apart: &mut HashSet<Pair, Keyed>,
         pair: Pair,
         truth: bool,
     ) -> Result<bool, AllocError>
@@ -102,6 +104,7 @@ impl Store {
         if self.meets_in(apart, high, truth)? {
             return Ok(true);
         }
+        room_beside(apart.len())?;
         apart.insert(pair)?;
         Ok(false)
     }

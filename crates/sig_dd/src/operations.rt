@@ -3,16 +3,35 @@
 ghost use Rattle.std.specs.Prelude.{◌&&◌, ◌||◌, ◌↔◌, not, ℕ, List, [], ◌∷◌, IfOk, IsTrue, true, false, if◌then◌else◌};
 ghost use Rattle.sig_dd.specs.Diagram.{truth_of, with_truth};
 ghost use Rattle.sig_dd.specs.Nodes.{Holds, IsStore, Keeps, IsRefOf, Implies, test};
-ghost use Rattle.sig_dd.specs.Question.{HoldsAll, TestsOnly, asked};
+ghost use Rattle.sig_dd.specs.Question.{HoldsAll, IsTable, TestsOnly, asked};
 ghost use Rattle.sig_dd.specs.Shares.{refusal, Share, Shares};
 
 use crate::answer::DdAnswer;
+use crate::cache::Table;
 use crate::node::Ref;
 use crate::question::Question;
 use crate::store::Store;
-use std::collections::HashMap;
 
 impl Store {
+    /// The reference that answers the question, beside what the call has answered so far.
+    pub(crate) fn answer_beside(
+        &mut self,
+        table: &mut Table,
+        question: Question,
+    ) -> Result<Ref, DdAnswer>
+        requires held { HoldsAll self.old.nodes question }
+        requires table { IsTable ⟦<Question as PartialEq>⟧.eq self.old.nodes table.old.others }
+        ensures was_store { IsStore self.old }
+        ensures store { IsStore self.new }
+        ensures kept { Keeps self.old self.new }
+        ensures table { IsTable ⟦<Question as PartialEq>⟧.eq self.new.nodes table.new.others }
+        ensures value { IfOk result (IsRefOf self.new.nodes (asked self.old.nodes question)) }
+        ensures spends { (vs : List ℕ) → TestsOnly self.old.nodes question vs
+            → Share 1 vs self.old self.new (refusal result) }
+    {
+        self.answer_in(table, question, true)
+    }
+
     /// The reference that answers the question.
     fn answer(&mut self, question: Question) -> Result<Ref, DdAnswer>
         requires held { HoldsAll self.old.nodes question }
@@ -23,8 +42,8 @@ impl Store {
         ensures spends { (vs : List ℕ) → TestsOnly self.old.nodes question vs
             → Share 1 vs self.old self.new (refusal result) }
     {
-        let mut table = HashMap::new(self.allocator());
-        self.answer_in(&mut table, question, true)
+        let mut table = Table::new(self.allocator(), self.hashing());
+        self.answer_beside(&mut table, question)
     }
 
     /// The variable as a function: it is true exactly where the variable is.

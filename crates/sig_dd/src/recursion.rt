@@ -20,10 +20,11 @@ impl Store {
         first: bool,
     ) -> Result<Ref, DdAnswer>
         requires held { HoldsAll self.old.nodes question }
-        requires table { IsTable ⟦<Question as PartialEq>⟧.eq self.old.nodes table.old }
+        requires table { IsTable ⟦<Question as PartialEq>⟧.eq self.old.nodes table.old.others }
+        ensures was_store { IsStore self.old }
         ensures store { IsStore self.new }
         ensures kept { Keeps self.old self.new }
-        ensures table { IsTable ⟦<Question as PartialEq>⟧.eq self.new.nodes table.new }
+        ensures table { IsTable ⟦<Question as PartialEq>⟧.eq self.new.nodes table.new.others }
         ensures value { IfOk result (IsAnswer self.new.nodes question) }
 
         // The nodes that are added; a refusal for their number comes before the last of them.

@@ -7,13 +7,14 @@ ghost use Rattle.sig_dd.specs.inner.Renaming.{AreRenamed, IsChoiceBy, IsRenamed,
 ghost use Rattle.sig_dd.specs.Shares.{refusal, Share};
 
 use crate::answer::DdAnswer;
+use crate::keyed::Keyed;
 use crate::node::Ref;
 use crate::store::Store;
 use std::alloc::AllocError;
 use std::collections::HashMap;
 
 /// The functions that one call has renamed so far.
-type Renamed = HashMap<Ref, Ref>;
+type Renamed = HashMap<Ref, Ref, Keyed>;
 
 /// The variable that stands in the place of another one.
 fn target(to: &[u32], variable: u32) -> Option<u32>
@@ -36,7 +37,7 @@ impl Store {
         ensures spends { (vs : List ℕ) → Spans self.old.nodes f vs
             → Share (length vs + 1) vs self.old self.new (refusal result) }
     {
-        let mut renamed = HashMap::new(self.allocator());
+        let mut renamed = HashMap::with_hasher(self.allocator(), self.hashing());
         self.rename_in(&mut renamed, f, to)
     }
 

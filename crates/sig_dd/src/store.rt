@@ -6,6 +6,7 @@ ghost use Rattle.sig_dd.specs.Nodes.{StoreView, IsStore, IsRefOf, Holds, Keeps, 
 
 use crate::answer::DdAnswer;
 use crate::cache::Choice;
+use crate::keyed::Keyed;
 use crate::node::{Node, Ref};
 use indexmap::IndexSet;
 use lru::LruCache;
@@ -14,7 +15,7 @@ use std::marker::Model;
 use std::num::NonZeroUsize;
 
 /// How many answers of choices a store keeps.
-const KEPT: usize = 65_536;
+pub(crate) const KEPT: usize = 65_536;
 
 /// The most nodes whose references fit 32 bits beside the two constants.
 const NUMBERS: usize = 0xffff_fffe;
@@ -24,9 +25,10 @@ const NUMBERS: usize = 0xffff_fffe;
 /// as there are variables. Where it is refused, the store keeps the nodes that it added.
 #[derive(Drop)]
 pub struct Store {
-    nodes: IndexSet<Node>,
+    nodes: IndexSet<Node, Keyed>,
     made_for: u32,
-    pub(crate) cache: LruCache<Choice, Ref>,
+    pub(crate) cache: LruCache<Choice, Ref, Keyed>,
+    keyed: Keyed,
     alloc: Global,
 }
 
@@ -49,10 +51,21 @@ impl Store {
         ensures made_for { IfOk result (λ s. s.made_for ≡ nodes) }
         ensures no_budget { (n : ℕ) → result ≢ Err (DdAnswer.Budget n) }
     {
+        Store::keyed(alloc, nodes, Keyed::by(0))
+    }
+
+    /// The same, with its nodes and answers hashed by this key.
+    pub fn keyed(alloc: Global, nodes: u32, keyed: Keyed) -> Result<Store, DdAnswer>
+        ensures store { IfOk result IsStore }
+        ensures empty { IfOk result (λ s. s.nodes ≡ []) }
+        ensures made_for { IfOk result (λ s. s.made_for ≡ nodes) }
+        ensures no_budget { (n : ℕ) → result ≢ Err (DdAnswer.Budget n) }
+    {
         Ok(Store {
-            nodes: IndexSet::new(alloc),
+            nodes: IndexSet::with_hasher(alloc, keyed),
             made_for: nodes,
-            cache: LruCache::new(alloc, NonZeroUsize::new(KEPT).unwrap())?,
+            cache: LruCache::with_hasher(alloc, NonZeroUsize::new(KEPT).unwrap(), keyed)?,
+            keyed,
             alloc,
         })
     }
@@ -81,6 +94,11 @@ impl Store {
         ensures numbered { length self.now.nodes + 2 ≤ 2 ^ 32 }
     {
         self.alloc
+    }
+
+    /// How the store hashes.
+    pub(crate) fn hashing(&self) -> Keyed {
+        self.keyed
     }
 
     /// The node that a reference of the store names; a constant names none.

@@ -7,6 +7,7 @@ ghost use Rattle.sig_dd.specs.Nodes.{Holds, IsStore, test};
 ghost use Rattle.sig_dd.specs.inner.Support.{Collects, IsSeen};
 
 use crate::answer::DdAnswer;
+use crate::keyed::Keyed;
 use crate::node::Ref;
 use crate::store::Store;
 use std::alloc::AllocError;
@@ -23,7 +24,7 @@ impl Store {
         ensures no_budget { (n : ℕ) → result ≢ Err (DdAnswer.Budget n) }
     {
         let mut variables = BTreeSet::new(self.allocator());
-        let mut seen = HashSet::new(self.allocator());
+        let mut seen = HashSet::with_hasher(self.allocator(), self.hashing());
         self.collect_variables(f, &mut seen, &mut variables)?;
         Ok(variables.iter().copied().collect(self.allocator())?)
     }
@@ -32,7 +33,7 @@ impl Store {
     fn collect_variables(
         &self,
         r: Ref,
-        seen: &mut HashSet<Ref>,
+        seen: &mut HashSet<Ref, Keyed>,
         variables: &mut BTreeSet<u32>,
     ) -> Result<(), AllocError>
         requires held { Holds self.now.nodes r }

@@ -59,8 +59,8 @@ pub use Rattle.sig_cells.specs.declared.instruction.Work.{Work}
 pub use Rattle.sig_cells.specs.declared.instruction.Work.TheVariants.{Copy, Next, One, Two}
 pub use Rattle.sig_cells.specs.declared.react.Fault.{Fault}
 pub use Rattle.sig_exec.specs.declared.functions.Functions.{Functions}
-pub use Rattle.sig_exec.specs.declared.lowered.Lowered.{Lowered}
-pub use Rattle.sig_exec.specs.declared.machine.Machine.{Machine}
+pub use Rattle.sig_exec.specs.declared.lowered.ImageInstructions.{ImageInstructions}
+pub use Rattle.sig_exec.specs.declared.machine.ImageMachine.{ImageMachine}
 pub use Rattle.sig_exec.specs.inner.Functions.{AreFunctions, AreFunctionsOfFirst, IsChosen}
 pub use Rattle.sig_exec.specs.inner.Instants.{AreOutputs, EndsAt, HandlesEach, HandlesFirst, IsAmid, IsOutput, line_of_seen, reference}
 pub use Rattle.sig_exec.specs.inner.Lowerings.{AreFor, AreGuardsOf, BeginWith, Grows, IsCellOf, IsConstant, IsFor, IsFunctionWork, IsWorkOf, Lowers, bound_of, inits_of, target_of}

@@ -1,12 +1,12 @@
 -- An instruction whose guard holds does what its operation does.
-use Rattle.sig_exec.proofs.Common.{◌≡◌, ◌+◌, ℕ, ℤ, List, Some, Result, Ok, Err, sym, subst, ◌∙◌, slice_get, IsSoundImage, guarded_in, guards_of, ImageView, IsImage, MayDo, scope_of, Does, Ends, State, ImageOp, IsAmid, IsFor, Lowers, AreCellsOf, Cells, answer_of, instructions_in, left_by, state_on, cause_of, Cause, Instruction, Lowered}
+use Rattle.sig_exec.proofs.Common.{◌≡◌, ◌+◌, ℕ, ℤ, List, Some, Result, Ok, Err, sym, subst, ◌∙◌, slice_get, IsSoundImage, guarded_in, guards_of, ImageView, IsImage, MayDo, scope_of, Does, Ends, State, ImageOp, IsAmid, IsFor, Lowers, AreCellsOf, Cells, answer_of, instructions_in, left_by, state_on, cause_of, Cause, Instruction, ImageInstructions}
 use Rattle.sig_exec.proofs.Amid.{IsOn, behind_done, reads_there, stays_done}
 use Rattle.sig_exec.proofs.GuardWalks.{Stays}
 use Rattle.sig_exec.proofs.OperationOutcomes.{Comes, HasPlaces, HasReads, comes, operated}
 use Rattle.sig_exec.proofs.Places.{guarded_at, has_places, operation_at}
 use Rattle.sig_exec.proofs.InstructionWorks.{Fits, cells_kept, fits, state_kept}
 
-module _ (image : ImageView) (right : IsImage image) (sound : IsSoundImage image) (lowered : Lowered) (lowers : Lowers image lowered) (flows : List (List ℤ)) (instant : ℕ) (m : Cells)
+module _ (image : ImageView) (right : IsImage image) (sound : IsSoundImage image) (lowered : ImageInstructions) (lowers : Lowers image lowered) (flows : List (List ℤ)) (instant : ℕ) (m : Cells)
     (is : AreCellsOf image lowered flows instant m) (place : ℕ) (amid : IsAmid image place (state_on image flows instant m)) (instruction : Instruction)
     (at : slice_get (instructions_in lowered.code) place ≡ Some instruction) (op : ImageOp) (there : slice_get image.ops place ≡ Some op)
     (on : IsOn image right sound (guarded_in image.nodes op) (state_on image flows instant m)) where

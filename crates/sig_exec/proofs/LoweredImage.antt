@@ -1,5 +1,5 @@
 -- The instructions and the guards of an image.
-use Rattle.sig_exec.proofs.Common.{◌≡◌, ◌≤◌, ◌++◌, ◌∷◌, ◌∙◌, inl, inr, ℕ, ℤ, pos, List, [], length, replicate, Some, sym, ap, subst, arith, slice_get, same_Some, get_pushed, SigId, Ref, ImageView, IsImage, ImageOp, AreFor, AreFunctions, AreGuardsOf, AreWithin, AreBelow, BeginWith, Grows, Instruction, IsCode, Lowered, Lowers, guards_in, inits_of, instructions_in}
+use Rattle.sig_exec.proofs.Common.{◌≡◌, ◌≤◌, ◌++◌, ◌∷◌, ◌∙◌, inl, inr, ℕ, ℤ, pos, List, [], length, replicate, Some, sym, ap, subst, arith, slice_get, same_Some, get_pushed, SigId, Ref, ImageView, IsImage, ImageOp, AreFor, AreFunctions, AreGuardsOf, AreWithin, AreBelow, BeginWith, Grows, Instruction, IsCode, ImageInstructions, Lowers, guards_in, inits_of, instructions_in}
 use Rattle.sig_cells.specs.Guards.{scope_of as cells_scope}
 use Rattle.sig_exec.proofs.MoreConstants.{begin_room}
 use Rattle.sig_exec.proofs.Places.{condition_within}
@@ -23,7 +23,7 @@ guards_more image refs guards guard op are there is = λ place that other at her
 pub are_below : (image : ImageView) → IsImage image → AreBelow (length image.signals) image.conditions
 are_below image right v c at = condition_within image right v c at
 
-pub lowers_by : (image : ImageView) → IsImage image → (lowered : Lowered) (first : List ℤ) → first ≡ replicate (length image.signals) (pos 0) ++ inits_of image → Grows first lowered.cells.items
+pub lowers_by : (image : ImageView) → IsImage image → (lowered : ImageInstructions) (first : List ℤ) → first ≡ replicate (length image.signals) (pos 0) ++ inits_of image → Grows first lowered.cells.items
     → AreFunctions image lowered.functions → (instructions : List Instruction) → AreFor image lowered.cells.items instructions → (guards : List Ref) → AreGuardsOf image lowered.functions guards
     → lowered.code.signals ≡ length image.signals → lowered.code.conditions.items ≡ image.conditions → instructions_in lowered.code ≡ instructions → guards_in lowered.code ≡ guards
     → ((inputs cells : ℕ) → length image.signals ≤ cells → AreWithin inputs cells instructions → IsCode lowered.functions.store.nodes inputs cells lowered.code)

@@ -1,5 +1,5 @@
 -- A machine before the first instant, and at the start of each.
-use Rattle.sig_exec.proofs.Common.{◌≡◌, ◌<◌, ◌≤◌, ◌++◌, ℕ, zero, suc, ℤ, pos, Bool, true, false, List, [], ◌∷◌, length, take, drop, replicate, None, Some, refl, sym, ap, ◌∙◌, arith, eqb-true, append_assoc, slice_get, ◌==◌, length-map, length-replicate, Seen, guards_of, ImageView, State, cleared, opening, ImageMemory, Lowers, inits_of, Cells, AreCellsOf, left_of, shown, shown_all, state_on, Lowered}
+use Rattle.sig_exec.proofs.Common.{◌≡◌, ◌<◌, ◌≤◌, ◌++◌, ℕ, zero, suc, ℤ, pos, Bool, true, false, List, [], ◌∷◌, length, take, drop, replicate, None, Some, refl, sym, ap, ◌∙◌, arith, eqb-true, append_assoc, slice_get, ◌==◌, length-map, length-replicate, Seen, guards_of, ImageView, State, cleared, opening, ImageMemory, Lowers, inits_of, Cells, AreCellsOf, left_of, shown, shown_all, state_on, ImageInstructions}
 use Rattle.sig_exec.proofs.InstructionWorks.{has_cells}
 
 -- a stamp before the instant is none of it
@@ -19,7 +19,7 @@ none_shown instant (t ∷ stamps) (v ∷ cells) (suc n) before a b =
     ∙ ap (λ (l : List Seen). None ∷ l) (none_shown instant stamps cells n (λ k. before (suc k)) (omega (arith, a)) (omega (arith, b)))
 
 -- at the start of a later instant no signal is written
-pub state_cleared : (image : ImageView) (lowered : Lowered) → Lowers image lowered → (flows : List (List ℤ)) (before : ℕ) (m : Cells) → AreCellsOf image lowered flows before m → (instant : ℕ) → before < instant
+pub state_cleared : (image : ImageView) (lowered : ImageInstructions) → Lowers image lowered → (flows : List (List ℤ)) (before : ℕ) (m : Cells) → AreCellsOf image lowered flows before m → (instant : ℕ) → before < instant
     → state_on image flows instant m ≡ cleared (guards_of image) (state_on image flows before m)
 state_cleared image lowered lowers flows before m is instant later =
     let has = has_cells image lowered lowers flows before m is in
@@ -44,7 +44,7 @@ none_taken : (flows : List (List ℤ)) (z : ℕ) → z ≡ 0 → left_of (replic
 none_taken [] z e = refl
 none_taken (flow ∷ flows) z e = ap (λ (k : ℕ). drop k flow ∷ left_of (replicate (length flows) z) flows) e ∙ ap (λ (l : List (List ℤ)). flow ∷ l) (none_taken flows z e)
 
-pub state_opening : (image : ImageView) (lowered : Lowered) → Lowers image lowered → (flows : List (List ℤ)) (instant : ℕ) (m : Cells) → m.values ≡ lowered.cells.items → m.taken ≡ replicate (length flows) 0
+pub state_opening : (image : ImageView) (lowered : ImageInstructions) → Lowers image lowered → (flows : List (List ℤ)) (instant : ℕ) (m : Cells) → m.values ≡ lowered.cells.items → m.taken ≡ replicate (length flows) 0
     → cleared (guards_of image) (state_on image flows instant m) ≡ cleared (guards_of image) (opening (guards_of image) flows)
 state_opening image lowered lowers flows instant m cells taken =
     let (more, all) = lowers.opening in

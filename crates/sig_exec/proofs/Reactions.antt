@@ -1,5 +1,5 @@
 -- An instant of the instructions of an image is one of its operations.
-use Rattle.sig_exec.proofs.Common.{same_Some, ◌≡◌, ◌≤◌, ◌+◌, ◌-◌, ◌++◌, inl, inr, ℕ, zero, suc, ℤ, Bool, true, false, List, length, take, drop, take-append_seam, Some, Result, Ok, refl, sym, ap, subst, ◌∙◌, arith, slice_get, slice_get_within, some_at, length-map, take_all, IsSoundImage, guarded_in, guards_of, Guarded, ImageView, IsImage, Ends, EndsIn, Handles, HandlesAll, State, holds, ImageOp, HandlesEach, HandlesFirst, IsAmid, Lowers, AreCellsOf, Cells, CellsEndAt, cells_of, HandlesAt, HandlesCells, KeepsCells, bound_of, Ref, Scope, Stands, answer_of, guards_in, holds_at, instructions_in, left_by, scope_in, state_on, cause_of, Cause, Fault, Instruction, Lowered}
+use Rattle.sig_exec.proofs.Common.{same_Some, ◌≡◌, ◌≤◌, ◌+◌, ◌-◌, ◌++◌, inl, inr, ℕ, zero, suc, ℤ, Bool, true, false, List, length, take, drop, take-append_seam, Some, Result, Ok, refl, sym, ap, subst, ◌∙◌, arith, slice_get, slice_get_within, some_at, length-map, take_all, IsSoundImage, guarded_in, guards_of, Guarded, ImageView, IsImage, Ends, EndsIn, Handles, HandlesAll, State, holds, ImageOp, HandlesEach, HandlesFirst, IsAmid, Lowers, AreCellsOf, Cells, CellsEndAt, cells_of, HandlesAt, HandlesCells, KeepsCells, bound_of, Ref, Scope, Stands, answer_of, guards_in, holds_at, instructions_in, left_by, scope_in, state_on, cause_of, Cause, Fault, Instruction, ImageInstructions}
 use Rattle.sig_exec.proofs.Amid.{amid_first, behind_passed}
 use Rattle.sig_exec.proofs.CellsLeft.{registers_length}
 use Rattle.sig_exec.proofs.GuardWalks.{Stays, stays}
@@ -9,7 +9,7 @@ use Rattle.sig_exec.proofs.InstructionWorks.{flows_length, has_cells, memories_l
 use Rattle.sig_exec.proofs.Places.{guarded_at, operation_at}
 use Rattle.sig_exec.proofs.SameGuards.{same_guard}
 
-module _ (image : ImageView) (right : IsImage image) (sound : IsSoundImage image) (lowered : Lowered) (lowers : Lowers image lowered) (flows : List (List ℤ)) (count : length flows ≡ image.inputs)
+module _ (image : ImageView) (right : IsImage image) (sound : IsSoundImage image) (lowered : ImageInstructions) (lowers : Lowers image lowered) (flows : List (List ℤ)) (count : length flows ≡ image.inputs)
     (instant : ℕ) where
   abbrev scope : Scope
   scope = scope_in lowered.functions.store.nodes lowered.code
@@ -168,7 +168,7 @@ module _ (image : ImageView) (right : IsImage image) (sound : IsSoundImage image
 
 -- ---- whatever was done
 
-module _ (image : ImageView) (right : IsImage image) (lowered : Lowered) (lowers : Lowers image lowered) (flows : List (List ℤ)) (instant : ℕ) (s t : Cells)
+module _ (image : ImageView) (right : IsImage image) (lowered : ImageInstructions) (lowers : Lowers image lowered) (flows : List (List ℤ)) (instant : ℕ) (s t : Cells)
     (is : AreCellsOf image lowered flows instant s) (keeps : KeepsCells (instructions_in lowered.code) instant s t) where
   -- no instruction writes into a constant
   behind_targets : (number : ℕ) → bound_of image ≤ number → (place : ℕ) (instruction : Instruction) → slice_get (instructions_in lowered.code) place ≡ Some instruction → instruction.target ≡ number → ⊥
@@ -203,7 +203,7 @@ pub refilled : (i j k : ℕ) (s t : Cells) → i ≡ length s.values → j ≡ l
 refilled i j k s t a b d values stamps taken =
     λ l. cells_of (filled i s.values t.values a values l) (filled j s.stamps t.stamps b stamps l) (filled k s.taken t.taken d taken l)
 
-module _ (image : ImageView) (right : IsImage image) (sound : IsSoundImage image) (lowered : Lowered) (lowers : Lowers image lowered) (flows : List (List ℤ)) (count : length flows ≡ image.inputs)
+module _ (image : ImageView) (right : IsImage image) (sound : IsSoundImage image) (lowered : ImageInstructions) (lowers : Lowers image lowered) (flows : List (List ℤ)) (count : length flows ≡ image.inputs)
     (instant : ℕ) (s : Cells) (is : AreCellsOf image lowered flows instant s) (given : Cells) (same : given ≡ s) where
   abbrev Standing : Type 0
   Standing = Stands (scope_in lowered.functions.store.nodes lowered.code) (guards_in lowered.code) (instructions_in lowered.code) flows instant given

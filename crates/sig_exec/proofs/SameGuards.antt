@@ -1,5 +1,5 @@
 -- The guards of instructions tell what those of their operations do.
-use Rattle.sig_exec.proofs.Common.{◌≡◌, ◌<◌, ℕ, suc, ℤ, Bool, true, false, List, [], ◌∷◌, length, Option, None, Some, refl, sym, ap, ◌∙◌, arith, if◌then◌else◌, lt-ltb, nat_lt, slice_get, slice_get-get_or, test, Seen, SigId, seen_at, guarded_in, guards_of, holds, is_true, proposal_of, ImageView, IsImage, ImageOp, Ref, AreCellsOf, Cells, Scope, HaveSignals, Lowered, Lowers, cell, guards_in, holds_at, registers_in, registers_on, scope_in, stamped, state_on, truths_of}
+use Rattle.sig_exec.proofs.Common.{◌≡◌, ◌<◌, ℕ, suc, ℤ, Bool, true, false, List, [], ◌∷◌, length, Option, None, Some, refl, sym, ap, ◌∙◌, arith, if◌then◌else◌, lt-ltb, nat_lt, slice_get, slice_get-get_or, test, Seen, SigId, seen_at, guarded_in, guards_of, holds, is_true, proposal_of, ImageView, IsImage, ImageOp, Ref, AreCellsOf, Cells, Scope, HaveSignals, ImageInstructions, Lowers, cell, guards_in, holds_at, registers_in, registers_on, scope_in, stamped, state_on, truths_of}
 use Rattle.sig_model.specs.Actors.{is_true as is_true_of}
 use Rattle.sig_exec.proofs.CellsLeft.{registers_at}
 use Rattle.sig_exec.proofs.InstructionWorks.{has_cells}
@@ -31,7 +31,7 @@ module _ (image : ImageView) (instant : ℕ) (s : Cells) (has : HaveSignals imag
       (same_truth (registers_in (length image.signals) instant s c.0) ∙ ap is_true (register_same c.0 (below 0 c refl)))
       ∙ ap (λ (l : List Bool). is_true (seen_at (registers_on image instant s) c.0) ∷ l) (truths_same conditions (λ v d at. below (suc v) d at))
 
-module _ (image : ImageView) (right : IsImage image) (lowered : Lowered) (lowers : Lowers image lowered) (flows : List (List ℤ)) (instant : ℕ) (s : Cells)
+module _ (image : ImageView) (right : IsImage image) (lowered : ImageInstructions) (lowers : Lowers image lowered) (flows : List (List ℤ)) (instant : ℕ) (s : Cells)
     (are : AreCellsOf image lowered flows instant s) (place : ℕ) (guard : Ref) (at : slice_get (guards_in lowered.code) place ≡ Some guard) (op : ImageOp)
     (there : slice_get image.ops place ≡ Some op) where
   pub same_guard : holds_at (scope_in lowered.functions.store.nodes lowered.code) instant guard s ≡ holds (guards_of image) (guarded_in image.nodes op) (state_on image flows instant s)

@@ -10,9 +10,9 @@ ghost use Rattle.sig_exec.specs.declared.answer.ExecAnswer.{ExecAnswer};
 
 use crate::answer::ExecAnswer;
 use crate::images::{image_of, images_are_right};
-use crate::lowered::Lowered;
+use crate::lowered::ImageInstructions;
 use crate::lowering::lower;
-use crate::machine::Machine;
+use crate::machine::ImageMachine;
 use crate::putting::Outputs;
 use sig_file::{Image, ImageCause, ImageEnd};
 use sig_kernel::Inputs;
@@ -42,7 +42,7 @@ pub fn exec<S: Sink>(
     let Ok(lowered) = lower(alloc, image) else {
         return Err(ExecAnswer::OutOfMemory);
     };
-    let Ok(mut machine) = Machine::new(alloc, &lowered, inputs) else {
+    let Ok(mut machine) = ImageMachine::new(alloc, &lowered, inputs) else {
         return Err(ExecAnswer::OutOfMemory);
     };
     let Ok(mut outputs) = Outputs::new(alloc, image) else {
@@ -64,9 +64,9 @@ pub fn exec<S: Sink>(
 
 /// Runs from before the first instant.
 fn run<S: Sink>(
-    machine: &mut Machine,
+    machine: &mut ImageMachine,
     image: &Image,
-    lowered: &Lowered,
+    lowered: &ImageInstructions,
     outputs: &mut Outputs,
     inputs: &Inputs,
     limit: u32,

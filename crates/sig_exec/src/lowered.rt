@@ -6,7 +6,7 @@ use sig_cells::Code;
 /// The operations of an image as instructions under guards, in their order, with the store of their guards. The cells are those
 /// of its signals, then those of its memories, then constants; here the memories have what they have at first.
 #[derive(Drop)]
-pub struct Lowered {
+pub struct ImageInstructions {
     pub(crate) functions: Functions,
     pub(crate) code: Code,
     pub(crate) cells: Vec<i64>,

@@ -7,7 +7,7 @@ ghost use Rattle.sig_exec.specs.inner.Lowerings.{AreFor, AreGuardsOf, Grows, IsC
 
 use crate::functions::Functions;
 use crate::images::{conditions_of, images_are_right, op_at, signal_count};
-use crate::lowered::Lowered;
+use crate::lowered::ImageInstructions;
 use sig_cells::{Code, Instruction, Work};
 use sig_dd::Ref;
 use sig_file::{Image, ImageOp, ImageOpKind};
@@ -15,7 +15,7 @@ use sig_kernel::{FunOp, Operand};
 use std::alloc::{AllocError, Global};
 
 /// The instructions of an image.
-pub(crate) fn lower(alloc: Global, image: &Image) -> Result<Lowered, AllocError>
+pub(crate) fn lower(alloc: Global, image: &Image) -> Result<ImageInstructions, AllocError>
     ensures { IfOk result (Lowers image.now) }
 {
     images_are_right(image);
@@ -31,7 +31,7 @@ pub(crate) fn lower(alloc: Global, image: &Image) -> Result<Lowered, AllocError>
         guards.as_slice(),
         instructions,
     )?;
-    Ok(Lowered {
+    Ok(ImageInstructions {
         functions,
         code,
         cells,

@@ -6,7 +6,7 @@ ghost use Rattle.sig_exec.specs.inner.Instants.{AreOutputs, IsOutput, line_of_se
 ghost use Rattle.sig_exec.specs.inner.Machines.{HasCells, registers_of};
 
 use crate::images::{images_are_right, inputs_of, outputs_of, signal_at};
-use crate::machine::Machine;
+use crate::machine::ImageMachine;
 use sig_base::{Signal, Span, Text};
 use sig_file::{Image, ImageSignal};
 use sig_flow::OutputLines;
@@ -34,7 +34,7 @@ impl Outputs {
     /// given them at once. It takes no memory.
     pub(crate) fn put<S: Sink>(
         &mut self,
-        machine: &Machine,
+        machine: &ImageMachine,
         image: &Image,
         sink: &mut S,
     ) -> Result<(), WriteFault>
@@ -52,7 +52,7 @@ impl Outputs {
 
     /// Makes the lines those of the outputs that were written, from the last one to the first.
     #[inline(never)]
-    fn make(&mut self, machine: &Machine, image: &Image)
+    fn make(&mut self, machine: &ImageMachine, image: &Image)
         requires outputs { AreOutputs image.now self.old }
         requires cells { HasCells image.now machine.now }
         ensures outputs { AreOutputs image.now self.new }

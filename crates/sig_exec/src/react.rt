@@ -8,17 +8,17 @@ ghost use Rattle.sig_exec.specs.inner.Machines.{IsMachineOf, state_of};
 
 use crate::fault::cause_of;
 use crate::images::{images_are_right, op_at};
-use crate::lowered::Lowered;
-use crate::machine::Machine;
+use crate::lowered::ImageInstructions;
+use crate::machine::ImageMachine;
 use sig_file::{Image, ImageCause};
 use sig_kernel::Inputs;
 
-impl Machine {
+impl ImageMachine {
     /// Does all operations of an instant whose guards hold, or tells why the first that has no value has none.
     pub(crate) fn react(
         &mut self,
         image: &Image,
-        lowered: &Lowered,
+        lowered: &ImageInstructions,
         inputs: &Inputs,
     ) -> Result<(), ImageCause>
         requires sound { IsSoundImage image.now }

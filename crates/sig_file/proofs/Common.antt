@@ -9,7 +9,7 @@ pub use Rattle.std.proofs.lemmas.List.Concat.{flat_map-cons}
 pub use Rattle.std.proofs.lemmas.List.Elements.{All-from_recursion, filter_map-append}
 pub use Rattle.std.proofs.lemmas.List.Folds.{list_any-append}
 pub use Rattle.std.proofs.lemmas.List.Sums.{sum_by-cons}
-pub use Rattle.std.proofs.lemmas.Map.Text.{hash_map_updates_str}
+pub use Rattle.std.proofs.lemmas.Map.Text.{btree_map_updates_str}
 pub use Rattle.std.proofs.lemmas.Nat.{be_bytes_4, be_bytes_8, from_be_bytes-to_be_bytes_4, from_be_bytes-to_be_bytes_8}
 pub use Rattle.std.proofs.lemmas.Option.{same_Some, slice_get_past}
 pub use Rattle.std.proofs.lemmas.Result.{err_from_is_err_and}
@@ -67,6 +67,7 @@ pub use Rattle.sig_file.specs.declared.images.ImageSignal.{ImageSignal}
 pub use Rattle.sig_file.specs.declared.limits.TheConstants.{CONDITIONS, MEMORIES, OPERATIONS, ROOM_FOR_NODES}
 pub use Rattle.sig_file.specs.declared.stop.Stop.{Stop}
 pub use Rattle.sig_file.specs.inner.Names.{IsSetOf}
+pub use Rattle.sig_file.specs.inner.NodeSets.{IsNodeSet, node_cmp}
 pub use Rattle.sig_file.specs.inner.Numbering.{AreNumbered, IsNumbered, made_behind}
 pub use Rattle.sig_file.specs.inner.Parts.{view_of}
 pub use Rattle.sig_file.specs.inner.Reading.{Reading, Stops, added, choice_at, choice_of, long_at, number_if, right_or, text_at, word_at, ◌>>=◌}

@@ -8,6 +8,7 @@ pub mod Items
 pub mod Lengths
 pub mod Loops
 pub mod MadeBehind
+pub mod NodeSets
 pub mod Numbered
 pub mod Operands
 pub mod Operations
@@ -34,6 +35,7 @@ pub use Files.*
 pub use Lengths.*
 pub use Loops.*
 pub use MadeBehind.*
+pub use NodeSets.*
 pub use Numbered.*
 pub use PlanBytes.*
 pub use PlanConditions.*

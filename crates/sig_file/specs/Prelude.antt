@@ -1,9 +1,10 @@
 -- What the definitions and the clauses of this crate cite of std and of the crates below, passed on from one place.
+pub use Rattle.std.specs.Cmp.Lexicographic.{slice_cmp}
 pub use Rattle.std.specs.Int.{Width, byte_len, cast_signed, cast_unsigned, from_be_bytes, to_be_bytes, w32, w64}
 pub use Rattle.std.specs.List.{flat_map, list_all, list_any}
 pub use Rattle.std.specs.Prelude.{All, IfSome, Bool, Contains, Err, IfErr, IfOk, IsErrAnd, IsTrue, List, MatchResult, None, Ok, OnOk, Option, Result, Some, [], bytes_eq, codes, drop, false, if◌then◌else◌, length, map, nat_le, nat_lt, not, slice_get, slice_set, take, true, zero, suc, ℕ, ℤ, ◌&&◌, ◌++◌, ◌+◌, ◌-◌, ◌<◌, ◌==◌, ◌^◌, ◌||◌, ◌∷◌, ◌≡◌, ◌≢◌, ◌≤◌, ◌⊎◌}
 pub use Rattle.sig_base.specs.Traces.{has_64_bits}
-pub use Rattle.std.specs.Ordering.{int_eq}
+pub use Rattle.std.specs.Ordering.{int_eq, nat_cmp}
 pub use Rattle.std.specs.Prelude.{negsuc, pos}
 pub use Rattle.sig_base.specs.declared.ids.Kind.{Kind}
 pub use Rattle.sig_base.specs.declared.ids.Kind.TheVariants.{Boolean, Event, Integer}

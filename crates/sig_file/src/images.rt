@@ -20,7 +20,7 @@ pub struct ImageMemory {
 
 /// A node of the diagrams that the guards are: the number of its condition, and its children where
 /// this is false and where it is true. Child 0 is false, 1 is true, and n + 2 is node n.
-#[derive(Clone, Copy, PartialEq, Eq, Hash)]
+#[derive(Clone, Copy, PartialEq, Eq, PartialOrd, Ord, Hash)]
 pub struct ImageNode {
     pub variable: u32,
     pub low: u32,

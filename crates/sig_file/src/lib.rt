@@ -16,6 +16,7 @@ mod laws;
 mod laws_plans;
 pub mod limits;
 mod names;
+mod node_set;
 mod numbering;
 mod operand;
 mod operation;

@@ -5,12 +5,12 @@ ghost use Rattle.sig_file.specs.Prelude.{[], ℕ, List, OnOk, bytes_eq, list_any
 ghost use Rattle.sig_file.specs.inner.Names.{IsSetOf};
 
 use std::alloc::{AllocError, Global};
-use std::collections::HashMap;
+use std::collections::BTreeMap;
 
 /// The names of some signals.
 #[derive(Drop)]
 pub struct Names<'a> {
-    set: HashMap<&'a [u8], ()>,
+    set: BTreeMap<&'a [u8], ()>,
 }
 
 impl<'a> Names<'a> {
@@ -19,7 +19,7 @@ impl<'a> Names<'a> {
         ensures { IsSetOf [] result.set }
     {
         Names {
-            set: HashMap::new(alloc),
+            set: BTreeMap::new(alloc),
         }
     }
 
@@ -35,6 +35,6 @@ impl<'a> Names<'a> {
     pub fn has(&self, name: &[u8]) -> bool
         ensures { (names : List (List ℕ)) → IsSetOf names self.now.set → result ≡ list_any (bytes_eq name.now) names }
     {
-        self.set.get(&name).is_some()
+        self.set.contains_key(name)
     }
 }

@@ -1,10 +1,11 @@
 //! Signals, conditions, memories and nodes.
 
-ghost use Rattle.std.specs.Prelude.{◌≡◌, ◌&&◌, ◌==◌};
-ghost use Rattle.sig_file.specs.Prelude.{[], IfOk, false, list_any, not};
+ghost use Rattle.std.specs.Prelude.{◌≡◌, ◌&&◌, ◌==◌, ◌++◌, ◌∷◌};
+ghost use Rattle.sig_file.specs.Prelude.{[], IfOk, IsTrue, list_any, not};
 ghost use Rattle.sig_file.specs.Fields.{condition_at, memory_from, node_at, signal_at};
-ghost use Rattle.sig_file.specs.Images.{is_boolean, is_child, is_high_child, is_name, is_name_length, is_node, is_taken, names_of};
+ghost use Rattle.sig_file.specs.Images.{is_boolean, is_child, is_high_child, is_name, is_name_length, is_taken, names_of};
 ghost use Rattle.sig_file.specs.inner.Names.{IsSetOf};
+ghost use Rattle.sig_file.specs.inner.NodeSets.{IsNodeSet};
 ghost use Rattle.sig_file.specs.inner.Reading.{Gives, number_if, several, text_if};
 
 use crate::field::{choice_at, long_at, number_at, text_at};
@@ -12,10 +13,10 @@ use crate::fits::{is_value, kind_at};
 use crate::images::{ImageMemory, ImageNode, ImageSignal};
 use crate::limits::NAME_BYTES;
 use crate::names::Names;
+use crate::node_set::NodeSet;
 use crate::stop::Stop;
-use indexmap::IndexSet;
 use sig_base::{Kind, SigId, Text};
-use std::alloc::Global;
+use std::alloc::{AllocError, Global};
 
 /// The length of a name, and the bytes behind it.
 fn length_at(bytes: &[u8]) -> Result<(u32, &[u8]), Stop>
@@ -177,35 +178,46 @@ pub fn memories_at(
 }
 
 /// Whether a node behind these, of this variable, may have this child.
-fn is_child(before: &IndexSet<ImageNode>, variable: u32, child: u32) -> bool
-    ensures { result ≡ is_child before.now.keys variable child }
+fn is_child(before: &[ImageNode], variable: u32, child: u32) -> bool
+    ensures { result ≡ is_child before.now variable child }
 {
     if child < 2 {
         return true;
     }
-    match before.get_index(child as usize - 2) {
+    match before.get(child as usize - 2) {
         Some(node) => variable < node.variable,
         None => false,
     }
 }
 
 /// Whether a node behind these, of this variable and this child for false, may have this child for
-/// true.
-fn is_high_child(before: &IndexSet<ImageNode>, node: ImageNode) -> bool
-    ensures { result ≡ is_high_child before.now.keys node.variable node.low node.high }
+/// true. The node is added to their set.
+fn add_behind(
+    before: &[ImageNode],
+    known: &mut NodeSet,
+    node: ImageNode,
+) -> Result<bool, AllocError>
+    requires { IsNodeSet before.now known.old.set }
+    ensures may { IfOk result (λ may. may ≡ is_high_child before.now node.variable node.low node.high) }
+    ensures known { IfOk result (λ may. IsTrue may → IsNodeSet (before.now ++ node ∷ []) known.new.set) }
 {
-    is_child(before, node.variable, node.high) && node.high != node.low && !before.contains(&node)
+    if node.high == node.low || !is_child(before, node.variable, node.high) {
+        return Ok(false);
+    }
+    known.add(node)
 }
 
 /// A node behind these, and the bytes behind it.
 #[tactic(auto, unfolding(crate::specs::Fields::node_at))]
 fn node_at<'a>(
     conditions: u32,
-    before: &IndexSet<ImageNode>,
+    before: &[ImageNode],
+    known: &mut NodeSet,
     bytes: &'a [u8],
 ) -> Result<(ImageNode, &'a [u8]), Stop>
-    ensures node { Gives (λ x. (x.0, x.1.now)) result (node_at conditions before.now.keys bytes.now) }
-    ensures other { IfOk result (λ x. list_any (is_node x.0.variable x.0.low x.0.high) before.now.keys ≡ false) }
+    requires { IsNodeSet before.now known.old.set }
+    ensures node { Gives (λ x. (x.0, x.1.now)) result (node_at conditions before.now bytes.now) }
+    ensures known { IfOk result (λ x. IsNodeSet (before.now ++ x.0 ∷ []) known.new.set) }
 {
     let (variable, rest) = number_at(bytes)?;
     if variable >= conditions {
@@ -221,7 +233,7 @@ fn node_at<'a>(
         low,
         high,
     };
-    if !is_high_child(before, node) {
+    if !add_behind(before, known, node)? {
         return Err(Stop::Broken(after.len()));
     }
     Ok((node, last))
@@ -236,12 +248,13 @@ pub fn nodes_at(
 ) -> Result<(Vec<ImageNode>, &[u8]), Stop>
     ensures { Gives (λ x. (x.0.items, x.1.now)) result (several (node_at conditions) count [] bytes.now) }
 {
-    let mut nodes = IndexSet::new(alloc);
+    let mut nodes = Vec::new(alloc);
+    let mut known = NodeSet::new(alloc);
     let mut rest = bytes;
     for _ in 0..count {
-        let (node, after) = node_at(conditions, &nodes, rest)?;
-        nodes.insert_full(node)?;
+        let (node, after) = node_at(conditions, nodes.as_slice(), &mut known, rest)?;
+        nodes.push(node)?;
         rest = after;
     }
-    Ok((Vec::from_slice(alloc, nodes.as_slice())?, rest))
+    Ok((nodes, rest))
 }

@@ -12,13 +12,15 @@ pub use Rattle.std.proofs.lemmas.List.Folds.{list_all-append}
 pub use Rattle.std.proofs.lemmas.List.Splits.{length-slice_split, slice_split-cons_yes, slice_split_first, slice_split_none}
 pub use Rattle.std.proofs.lemmas.List.Sums.{passes_at_first, position_or_len_is, split_at_first, sum_by-cons}
 pub use Rattle.std.proofs.lemmas.Map.Keys.{apart_from_distinct}
-pub use Rattle.std.proofs.lemmas.Map.Text.{hash_map_updates_str}
+pub use Rattle.std.proofs.lemmas.Map.Text.{btree_map_updates_str}
 pub use Rattle.std.proofs.lemmas.Result.{err_from_is_err_and, on_ok_weaker}
 pub use Rattle.std.proofs.lemmas.Slice.Eq.{bytes_eq-Decides}
 pub use Rattle.std.proofs.lemmas.Str.Parse.{IsNumeralModel, digit_at, digits_value-take-le, digits_value_short, numerals_by_value, tells_all_ascii_digits}
 pub use Rattle.std.specs.Char.{digit_value, is_ascii_alphabetic}
 pub use Rattle.std.specs.Fmt.{signed_decimal}
-pub use Rattle.std.specs.HashMap.{get_by}
+pub use Rattle.std.specs.BTreeMap.{get_by}
+pub use Rattle.std.specs.Cmp.Lexicographic.{slice_cmp}
+pub use Rattle.std.specs.Ordering.{nat_cmp}
 pub use Rattle.std.specs.Int.{IsInRange}
 pub use Rattle.std.specs.List.{after_first, before_first, onto_first, position_or_len, slice_split}
 pub use Rattle.std.specs.Str.{all_ascii_digits}

@@ -1,4 +1,6 @@
 -- What the definitions and the clauses of this crate cite of std and of the crates below, passed on from one place.
+pub use Rattle.std.specs.Cmp.Lexicographic.{slice_cmp}
+pub use Rattle.std.specs.Ordering.{nat_cmp}
 pub use Rattle.std.specs.Char.{is_ascii_alphabetic, is_ascii_alphanumeric, is_ascii_digit}
 pub use Rattle.std.specs.Fmt.{signed_decimal}
 pub use Rattle.std.specs.List.{after_first, before_first, position_or_len, slice_split}

@@ -8,7 +8,7 @@ ghost use Rattle.sig_flow.specs.Inputs.{IsInput};
 use crate::named::input_named;
 use sig_base::Signal;
 use std::alloc::{AllocError, Global};
-use std::collections::HashMap;
+use std::collections::BTreeMap;
 use std::marker::Model;
 
 /// So few inputs are looked at one by one, which is quicker than by the map.
@@ -18,19 +18,19 @@ const FEW: usize = 6;
 #[derive(Drop)]
 pub(crate) struct Names<'a> {
     inputs: &'a [Signal],
-    places: HashMap<&'a [u8], usize>,
+    places: BTreeMap<&'a [u8], usize>,
 }
 
 impl<'a> Model for Names<'a> {
-    ghost use Rattle.sig_flow.specs.Prelude.{List, ℕ, bytes_eq, length, Signal};
-    ghost use Rattle.std.specs.HashMap as hash;
+    ghost use Rattle.sig_flow.specs.Prelude.{List, ℕ, length, nat_cmp, slice_cmp, Signal};
+    ghost use Rattle.std.specs.BTreeMap as tree;
     ghost use Rattle.sig_flow.specs.Inputs.{ArePlaces};
 
     ghost Value = { List Signal };
 
     ghost view = { λ names. names.inputs.now };
 
-    ghost invariant = { λ names. ArePlaces names.inputs.now (length names.inputs.now) (λ (q : List ℕ). hash.get_by (λ k. bytes_eq q k.now) names.places) };
+    ghost invariant = { λ names. ArePlaces names.inputs.now (length names.inputs.now) (λ (q : List ℕ). tree.get_by (λ k. slice_cmp nat_cmp q k.now) names.places) };
 }
 
 impl<'a> Names<'a> {
@@ -39,7 +39,7 @@ impl<'a> Names<'a> {
         requires { IsDistinct bytes_eq (map (λ input. input.name) inputs.now) }
         ensures { IfOk result (λ names. names ≡ inputs.now) }
     {
-        let mut places: HashMap<&'a [u8], usize> = HashMap::new(alloc);
+        let mut places: BTreeMap<&'a [u8], usize> = BTreeMap::new(alloc);
         for (i, input) in inputs.iter().enumerate() {
             places.insert(input.name.as_bytes(), i)?;
         }
@@ -54,6 +54,6 @@ impl<'a> Names<'a> {
         if self.inputs.len() <= FEW {
             return input_named(self.inputs, name);
         }
-        self.places.get(&name).copied()
+        self.places.get(name).copied()
     }
 }

@@ -7,12 +7,12 @@ ghost use Rattle.sig_load_command.specs.Refusals.{IsOfFlowsText, IsOfProgramText
 ghost use Rattle.sig_load_command.specs.inner.Stopping.{StopsLoad};
 
 use sig_base::limits::{FLOW_BYTES, PROGRAM_BYTES};
-use sig_compile::plan_of;
 use sig_kernel::{Inputs, Kernel};
 use sig_load::{LoadAnswer, flows_text, program_text};
+use sig_loaded::{Loaded, flows_of, hold_too_many};
 use sig_outcome::Refusal;
 use sig_plan::Plan;
-use sig_runs::{Loaded, flows_of, hold_too_many};
+use sig_program::plan_of;
 use std::alloc::Global;
 
 /// The plan of the generated program of so many stages and its flows from a seed on, with links that hold

@@ -5,7 +5,7 @@ ghost use Rattle.sig_load_command.specs.Prelude.{ℕ, Kernel, program, Settings,
 ghost use Rattle.sig_load_command.specs.Complete.{CanLoad};
 ghost use Rattle.sig_load_command.specs.Loads.{IsShortProgram, LoadComesTo, LoadsTo};
 
-use sig_compile::programs_have_a_verdict;
+use sig_program::programs_have_a_verdict;
 
 /// A law: a load comes to exactly one outcome; and this is so of a generated program that is accepted.
 pub fn loads_have_one_outcome()

@@ -19,15 +19,15 @@ pub use Rattle.sig_model.specs.Results.{is_one}
 pub use Rattle.sig_values.proofs.Common.{Outcome, answered, input_of, slice_get_read, to_z-of_z}
 pub use Rattle.sig_values.proofs.Functions.{of_many, two_of}
 pub use Rattle.sig_values.specs.Values.{at_next}
-pub use Rattle.sig_meaning.proofs.Common.{Actor, All-cons, All-contains, All-nil, AreFlowsFor, Cause, Compute, Const, Default, Delay, DelayRead, Depends, EqId, Equation, Event, Faults, Form, Fun, FunOp, Function, HasOperations, Holds, Instant, IsAccepted, IsValid, Kernel, Left, Node, Op, OpKind, Operand, Operation, PlanView, Presence, Read, Registers, Right, Sig, SigId, Store, Sync, Trace, When, WhenConst, abstraction_of, and_parts, computed, computed_at, computed_by, computed_for, divides_by_zero, each_operation, first_in, form_within, function_of, is_below, is_true, list_all, no_registers, numbers_of, only, operand_in, operand_within, operands_of, operation_in, operations_in, operations_of, outcome, outcome_by, Place, IsEnd, place_at, plan_operations, read_present, result_of, seen_at, signal_id, signals_of, store_of, stores_of, test, truth_of, truths_of, with_at, with_signal, without, writes_of, writing, written_below}
+pub use Rattle.sig_meaning_laws.proofs.Common.{Actor, All-cons, All-contains, All-nil, AreFlowsFor, Cause, Compute, Const, Default, Delay, DelayRead, Depends, EqId, Equation, Event, Faults, Form, Fun, FunOp, Function, HasOperations, Holds, Instant, IsAccepted, IsValid, Kernel, Left, Node, Op, OpKind, Operand, Operation, PlanView, Presence, Read, Registers, Right, Sig, SigId, Store, Sync, Trace, When, WhenConst, abstraction_of, and_parts, computed, computed_at, computed_by, computed_for, divides_by_zero, each_operation, first_in, form_within, function_of, is_below, is_true, list_all, no_registers, numbers_of, only, operand_in, operand_within, operands_of, operation_in, operations_in, operations_of, outcome, outcome_by, Place, IsEnd, place_at, plan_operations, read_present, result_of, seen_at, signal_id, signals_of, store_of, stores_of, test, truth_of, truths_of, with_at, with_signal, without, writes_of, writing, written_below}
 pub use Rattle.sig_lists.proofs.Contained.{contains_at, contains_head, contains_later}
-pub use Rattle.sig_doing.proofs.Amid.{guard_known, here, reads_known}
-pub use Rattle.sig_doing.proofs.Common.{Gives, IsAmid, OpId, StandsAt, compiled, condition_signal, defined_by, fitting, flow_count, has_64_bits, initial_in, operated, own_present, remembers, stepped, taken_by, target_of, target_within}
-pub use Rattle.sig_doing.proofs.FaultEndsRun.{fault_end}
-pub use Rattle.sig_doing.proofs.ReferenceInstant.{is_next, keeps, speaks}
-pub use Rattle.sig_doing.proofs.Operated.{done_behind}
-pub use Rattle.sig_doing.proofs.PassedOver.{passed_over}
-pub use Rattle.sig_doing.proofs.Places.{one_at}
+pub use Rattle.sig_doing_laws.proofs.Amid.{guard_known, here, reads_known}
+pub use Rattle.sig_doing_laws.proofs.Common.{Gives, IsAmid, OpId, StandsAt, compiled, condition_signal, defined_by, fitting, flow_count, has_64_bits, initial_in, operated, own_present, remembers, stepped, taken_by, target_of, target_within}
+pub use Rattle.sig_doing_laws.proofs.FaultEndsRun.{fault_end}
+pub use Rattle.sig_doing_laws.proofs.ReferenceInstant.{is_next, keeps, speaks}
+pub use Rattle.sig_doing_laws.proofs.Operated.{done_behind}
+pub use Rattle.sig_doing_laws.proofs.PassedOver.{passed_over}
+pub use Rattle.sig_doing_laws.proofs.Places.{one_at}
 pub use Rattle.sig_machine.specs.ActorMachines.{AreForSteps, DoesOp, HasActor, IsForKind, IsOpOfStep, IsStepDone, actor_in, instant_of, last_in, seen_in, truths_in}
 unfoldable pub use Rattle.sig_machine.specs.ActorMachines.{IsMachineOfActor}
 pub use Rattle.sig_machine.specs.Instants.{EndsBy, GoesOn, ended_behind}

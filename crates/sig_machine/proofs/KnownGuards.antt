@@ -1,8 +1,8 @@
 -- An actor amid an instant knows the guards of the operations before its place and at it.
 use Rattle.sig_machine.proofs.Common.{◌≡◌, ◌<◌, ◌≤◌, ◌∙◌, ℕ, ℤ, Bool, true, false, List, length, slice_get, Some, refl, ap, sym, arith, is_some, Actor, AreFlowsFor, Instant, IsAccepted, IsAmid, Op, Operation, PlanView, SigId, StandsAt, Trace, compiled, condition_signal, get_within, is_next, is_true, numbers_of, operation_in, operations_in, seen_at, test, truths_of}
-use Rattle.sig_doing.proofs.Common.{slice_index, Needs, guards_alone, needed_earlier, none_where, own_written, some_at, truth_at}
-use Rattle.sig_doing.proofs.ReferenceInstant.{written_at, written_is_there}
-use Rattle.sig_doing.proofs.Places.{at_place}
+use Rattle.sig_doing_laws.proofs.Common.{slice_index, Needs, guards_alone, needed_earlier, none_where, own_written, some_at, truth_at}
+use Rattle.sig_doing_laws.proofs.ReferenceInstant.{written_at, written_is_there}
+use Rattle.sig_doing_laws.proofs.Places.{at_place}
 
 module _ (plan : PlanView) (accepted : IsAccepted plan) (flows : List (List ℤ)) (fit : AreFlowsFor plan.kernel flows) (trace : Trace) (instant : Instant)
     (actor : Actor) (amid : IsAmid plan flows trace instant actor) (place : ℕ) (op : Op) (stands : StandsAt plan place op) (before : place ≤ actor.step) where

@@ -8,6 +8,6 @@ pub use Rattle.sig_plan.specs.Prelude.{Ref}
 pub use Rattle.sig_values.specs.Answers.{answered}
 pub use Rattle.sig_values.specs.Prelude.{Gives, computed, computed_by, computed_for, first_in, initial_in, input_of, is_one, memory_of, next_of, opening_actor, operand_in, operated, remembers, value_in, with_signal}
 pub use Rattle.sig_values.specs.Values.{at_next}
-pub use Rattle.sig_meaning.specs.Prelude.{Actor, AreFlowsFor, Faults, IsAccepted, IsEnd, IsValid, Outcome, Registers, outcome, truths_of}
-pub use Rattle.sig_doing.specs.Doing.{IsAmid}
-pub use Rattle.sig_doing.specs.Places.{StandsAt}
+pub use Rattle.sig_meaning_laws.specs.Prelude.{Actor, AreFlowsFor, Faults, IsAccepted, IsEnd, IsValid, Outcome, Registers, outcome, truths_of}
+pub use Rattle.sig_doing_laws.specs.Doing.{IsAmid}
+pub use Rattle.sig_doing_laws.specs.Places.{StandsAt}

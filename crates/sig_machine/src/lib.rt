@@ -1,5 +1,5 @@
 //! The operations of a plan as instructions over numbered cells, each under its guard, and an instant of them, which sig_cells
-//! does. It stands on sig_doing, which says what that makes of an instant. The steps of one actor are done by instructions of
+//! does. It stands on sig_doing_laws, which says what that makes of an instant. The steps of one actor are done by instructions of
 //! the same form.
 #![tactic(auto)]
 

@@ -2,7 +2,7 @@
 pub use Rattle.std.proofs.Common.{Bool, Bor, Contains, Global, IsTrue, List, None, Option, Some, Vec, [], ap, append_assoc, arith, bytes_eq, cond, false, find, flat_map, get_or, inl, inr, is_some, length, map, option_map, refl, subst, suc, sym, take, take_all, true, zero, ℕ, ◌++◌, ◌+◌, ◌<◌, ◌↔◌, ◌∙◌, ◌∷◌, ◌≡◌, ◌⊎◌}
 pub use Rattle.std.proofs.lemmas.List.{get_or_default, length-map, map-append, take_more}
 pub use Rattle.std.proofs.lemmas.List.Concat.{flat_map-append}
-pub use Rattle.std.proofs.lemmas.Map.Text.{hash_map_updates_str}
+pub use Rattle.std.proofs.lemmas.Map.Text.{btree_map_updates_str}
 pub use Rattle.std.proofs.lemmas.Simd.{map-map}
 pub use Rattle.std.proofs.lemmas.Slice.Eq.{bytes_eq-Decides}
 pub use Rattle.sig_lists.proofs.Contained.{contains_later, contains_none}

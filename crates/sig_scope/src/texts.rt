@@ -1,19 +1,19 @@
 //! Texts in a row, each found by its first place.
 
 ghost use Rattle.std.specs.Prelude.{◌≡◌, ◌↔◌, ◌++◌, ◌∷◌, ◌<◌};
-ghost use Rattle.sig_scope.specs.Prelude.{[], ℕ, List, length, map, IfOk, OnOk, IsTrue, IfSome, Contains, bytes_eq};
-ghost use Rattle.std.specs.HashMap as hash;
+ghost use Rattle.sig_scope.specs.Prelude.{[], ℕ, List, length, map, IfOk, OnOk, IsTrue, IfSome, Contains, nat_cmp, slice_cmp};
+ghost use Rattle.std.specs.BTreeMap as tree;
 ghost use Rattle.sig_scope.specs.Places.{place_of};
 
 use std::alloc::{AllocError, Global};
-use std::collections::HashMap;
+use std::collections::BTreeMap;
 use std::marker::Model;
 
 /// Texts in the order in which they were added.
 #[derive(Drop)]
 pub struct Texts<'a> {
     texts: Vec<&'a [u8]>,
-    places: HashMap<&'a [u8], usize>,
+    places: BTreeMap<&'a [u8], usize>,
 }
 
 impl<'a> Model for Texts<'a> {
@@ -21,7 +21,7 @@ impl<'a> Model for Texts<'a> {
 
     ghost view = { λ t. map (λ text. text.now) t.texts.items };
 
-    ghost invariant = { λ t. (q : List ℕ) → hash.get_by (λ k. bytes_eq q k.now) t.places ≡ place_of (map (λ text. text.now) t.texts.items) q };
+    ghost invariant = { λ t. (q : List ℕ) → tree.get_by (λ k. slice_cmp nat_cmp q k.now) t.places ≡ place_of (map (λ text. text.now) t.texts.items) q };
 }
 
 impl<'a> Texts<'a> {
@@ -31,7 +31,7 @@ impl<'a> Texts<'a> {
     {
         Texts {
             texts: Vec::new(alloc),
-            places: HashMap::new(alloc),
+            places: BTreeMap::new(alloc),
         }
     }
 
@@ -56,7 +56,7 @@ impl<'a> Texts<'a> {
     pub fn place(&self, text: &[u8]) -> Option<usize>
         ensures { result ≡ place_of self.now text.now }
     {
-        self.places.get(&text).copied()
+        self.places.get(text).copied()
     }
 
     /// Whether a text is among them.

@@ -1,5 +1,5 @@
 //! One actor of a plan: its state, and the step that it does next over any link ends. What that step is,
-//! sig_model says. It stands on sig_machine, sig_schedules and sig_flow.
+//! sig_model says. It stands on sig_machine, sig_schedule_laws and sig_flow.
 #![tactic(auto)]
 
 mod answer;

@@ -7,7 +7,7 @@ ghost use Rattle.sig_step.specs.Moving.{CanRun};
 use sig_base::{SigId, Signal};
 use sig_kernel::Kernel;
 use sig_plan::{Code, Op, Plan};
-use sig_schedules::accepted_plans_are_runnable;
+use sig_schedule_laws::accepted_plans_are_runnable;
 
 /// A law: each plan can be run.
 pub(crate) fn plans_can_run(plan: &Plan)

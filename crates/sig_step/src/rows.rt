@@ -38,7 +38,7 @@ fn row_at(steps: &[Step], rows: &[u32], from: usize) -> u32
     row_from(steps, from)
 }
 
-/// The end of the row of a number.
+/// The end of the row of the step of a number.
 fn row_in(rows: &[u32], number: usize) -> u32
     requires { number < length rows.now }
     ensures { slice_get rows.now number ≡ Some result }

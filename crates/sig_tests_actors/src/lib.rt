@@ -1,4 +1,4 @@
-//! The tests of what runs a plan: sig_alone, sig_step, sig_core and sig_work. It has no function of its own.
+//! The tests of what runs a plan: sig_alone, sig_step, sig_interleaving and sig_work. It has no function of its own.
 #![tactic(auto)]
 
 #[cfg(test)]

@@ -12,7 +12,7 @@ pub use Rattle.sig_flat.specs.Restricted.{restricted}
 pub use Rattle.sig_front.specs.Kernels.{HasTracesOf, IsProgramTrace}
 pub use Rattle.sig_pace.specs.Paced.{GetsPaces, IsPaced, paced_kernel}
 pub use Rattle.sig_pace.specs.Restriction.{FitPaces, HasPaces, HasTracesOf as HasTracesWithoutPaces, without_paces}
-pub use Rattle.sig_schedules.proofs.Common.{HasEnd, IsEnabled, IsFinished, IsKernelTrace, IsLongest}
+pub use Rattle.sig_schedule_laws.proofs.Common.{HasEnd, IsEnabled, IsFinished, IsKernelTrace, IsLongest}
 pub use Rattle.sig_words.specs.declared.answer.WordsAnswer.{WordsAnswer}
 pub use Rattle.sig_words.specs.declared.answer.WordsAnswer.TheVariants.{OutOfMemory as NoMemory, Refused}
 pub use Rattle.sig_words.specs.declared.command.Command.{Command}
@@ -20,32 +20,33 @@ pub use Rattle.sig_words.specs.declared.command.Command.TheVariants.{Build, Chec
 pub use Rattle.sig_words.proofs.Common.{IsCommand, Word, files_of, texts}
 pub use Rattle.sig_outcome.specs.Tasks.{IsCut, IsDone, IsRefused, IsRefusedBy, MayAnswer, Task, memory_line}
 pub use Rattle.sig_outcome.proofs.PerformedCalls.{not_refused}
-pub use Rattle.sig_compile.specs.Acceptance.{HasOwnKernel}
-pub use Rattle.sig_compile.specs.Compiling.{CompileComesTo, IsDueOf}
-pub use Rattle.sig_compile.specs.Prelude.{IsAcceptedKernel}
-pub use Rattle.sig_compile.specs.Printing.{PrintComesTo}
-pub use Rattle.sig_compile.specs.declared.product.Product.{Product}
-pub use Rattle.sig_compile.proofs.Common.{IsCodeText, IsCompileStatus, IsTreeText, IsVerdictText, canonical_text, done}
-pub use Rattle.sig_compile.proofs.OneCompilation.{one_compile_outcome, one_print_outcome}
+pub use Rattle.sig_program.specs.Acceptance.{HasOwnKernel}
+pub use Rattle.sig_compile_command.specs.Compiling.{CompileComesTo, IsDueOf}
+pub use Rattle.sig_program.specs.Prelude.{IsAcceptedKernel}
+pub use Rattle.sig_compile_command.specs.Printing.{PrintComesTo}
+pub use Rattle.sig_compile_command.specs.declared.product.Product.{Product}
+pub use Rattle.sig_program.proofs.Common.{IsCompileStatus, done}
+pub use Rattle.sig_compile_command.proofs.Common.{IsCodeText, IsTreeText, IsVerdictText, canonical_text}
+pub use Rattle.sig_compile_command.proofs.OneCompilation.{one_compile_outcome, one_print_outcome}
 pub use Rattle.sig_judge_command.specs.Judging.{JudgeComesTo}
 pub use Rattle.sig_judge_command.proofs.OneVerdict.{one_judge_outcome}
-pub use Rattle.sig_runs.specs.Runs.{RunComesTo}
-pub use Rattle.sig_runs.proofs.EndOfRun.{has_run}
-pub use Rattle.sig_runs.proofs.OneRun.{one_run_outcome}
+pub use Rattle.sig_loaded.specs.Runs.{RunComesTo}
+pub use Rattle.sig_loaded.proofs.EndOfRun.{has_run}
+pub use Rattle.sig_loaded.proofs.OneRun.{one_run_outcome}
 pub use Rattle.sig_load_command.specs.Loads.{LoadComesTo}
 pub use Rattle.sig_load_command.proofs.Common.{CanLoad, IsAboutLoad, IsLoadStatus, loading}
 pub use Rattle.sig_load_command.proofs.OneLoad.{one_load_outcome}
-pub use Rattle.sig_plays.specs.Plays.{PlayComesTo}
-pub use Rattle.sig_plays.proofs.Common.{AreFlowsFor, Budget, Contents, Core, Data, Ended, Event, Given, HasCount, IsDue, IsOwn, IsPrefixOf, IsRunStatus, IsValid, Kernel, LongFile, LongImage, LongProgram, Missing, OutOfMemory, Outcome, Performs, Place, Program, ReadFault, Refusal, Rose, SaysLine, Settings, Stops, TooManyItems, TookPrefix, Trace, after, outcome_of, output_text, performs_refusal, reactions_text, run_of, status_of, text_is, told, told_both}
-pub use Rattle.sig_plays.proofs.EndOfPlay.{has_play}
-pub use Rattle.sig_plays.proofs.OnePlay.{one_play_outcome}
-pub use Rattle.sig_images.specs.Builds.{BuildComesTo}
-pub use Rattle.sig_images.specs.Execs.{ExecComesTo}
-pub use Rattle.sig_images.specs.ImageFiles.{AreBytes}
-pub use Rattle.sig_images.proofs.CommandEnds.{has_built, has_executed, has_long_image}
-pub use Rattle.sig_images.proofs.Common.{IsBuildStatus, IsExecStatus, IsKernelEnd, Owes}
-pub use Rattle.sig_images.proofs.OneBuild.{one_build_outcome}
-pub use Rattle.sig_images.proofs.OneExec.{one_exec_outcome}
+pub use Rattle.sig_play_command.specs.Plays.{PlayComesTo}
+pub use Rattle.sig_play_command.proofs.Common.{AreFlowsFor, Budget, Contents, Core, Data, Ended, Event, Given, HasCount, IsDue, IsOwn, IsPrefixOf, IsRunStatus, IsValid, Kernel, LongFile, LongImage, LongProgram, Missing, OutOfMemory, Outcome, Performs, Place, Program, ReadFault, Refusal, Rose, SaysLine, Settings, Stops, TooManyItems, TookPrefix, Trace, after, outcome_of, output_text, performs_refusal, reactions_text, run_of, status_of, text_is, told, told_both}
+pub use Rattle.sig_play_command.proofs.EndOfPlay.{has_play}
+pub use Rattle.sig_play_command.proofs.OnePlay.{one_play_outcome}
+pub use Rattle.sig_image_command.specs.Builds.{BuildComesTo}
+pub use Rattle.sig_image_command.specs.Execs.{ExecComesTo}
+pub use Rattle.sig_image_command.specs.ImageFiles.{AreBytes}
+pub use Rattle.sig_image_command.proofs.CommandEnds.{has_built, has_executed, has_long_image}
+pub use Rattle.sig_image_command.proofs.Common.{IsBuildStatus, IsExecStatus, IsKernelEnd, Owes}
+pub use Rattle.sig_image_command.proofs.OneBuild.{one_build_outcome}
+pub use Rattle.sig_image_command.proofs.OneExec.{one_exec_outcome}
 pub use Rattle.sig_tool.specs.Commands.{IsLimited}
 pub use Rattle.sig_tool.specs.Complete.{CanBeDone, HasByteImage, HasGoodProgram}
 pub use Rattle.sig_tool.specs.Headline.{AreItsPrefixes, ArePrefixesAtPaces, IsFitting, IsFittingAtPaces, KeepInterleavings, KeepsHeadline, KeepsHeadlineAtPaces, KeepsHeadlineWithFlag, KeepsToTheText, at_paces}

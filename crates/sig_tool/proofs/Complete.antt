@@ -1,10 +1,10 @@
 -- A command whose files are good is done, if no call failed, memory was found, and the nodes of diagrams sufficed.
 use Rattle.sig_tool.proofs.Common.{◌≡◌, ◌⊎◌, ◌≤◌, ◌<◌, ℕ, List, Bool, Option, None, Some, IfSome, inl, inr, refl, ap, arith, DidNotRise, raised, Contents, Command, Build, Check, Code, Exec, Load, Play, Print, Run, Tree, IsCodeText, IsTreeText, Outcome, HasCount, IsOwn, outcome_of, status_of, IsDone, IsRefused, Owes, Performs, Task, Refusal, Missing, ReadFault, LongProgram, Program, Budget, TooManyItems, LongFile, Data, LongImage, OutOfMemory, not_refused, IsVerdictText, CanLoad, loading, CanBeDone, ComesTo, IfLoad, IsStatus, task_of}
-use Rattle.sig_compile.proofs.Complete as compiles
-use Rattle.sig_images.proofs.Complete as images
+use Rattle.sig_compile_command.proofs.Complete as compiles
+use Rattle.sig_image_command.proofs.Complete as images
 use Rattle.sig_load_command.proofs.Complete as loads
-use Rattle.sig_plays.proofs.Complete as plays
-use Rattle.sig_runs.proofs.Complete as runs
+use Rattle.sig_play_command.proofs.Complete as plays
+use Rattle.sig_loaded.proofs.Complete as runs
 use Rattle.sig_tool.proofs.TopClauses.{is_status}
 
 -- whatever such a command comes to, it is done

@@ -1,11 +1,11 @@
 -- A command over told contents comes to exactly one outcome.
 use Rattle.sig_tool.proofs.Common.{◌≡◌, ℕ, Bool, List, Settings, Contents, AreBytes, Some, Command, Build, Check, Code, Exec, Judge, Load, Play, Print, Run, Tree, Outcome, HasByteImage, HasGoodProgram, RunComesTo, PlayComesTo, LoadComesTo, BuildComesTo, ExecComesTo, JudgeComesTo, PrintComesTo, CompileComesTo, IsDueOf, Product, one_compile_outcome, one_print_outcome, one_judge_outcome, one_run_outcome, one_load_outcome, one_play_outcome, one_build_outcome, one_exec_outcome, ComesTo, canonical_text, done}
-use Rattle.sig_compile.specs.declared.product.Product.TheVariants as product
-use Rattle.sig_compile.proofs.Complete as compiles
-use Rattle.sig_images.proofs.Complete as images
+use Rattle.sig_compile_command.specs.declared.product.Product.TheVariants as product
+use Rattle.sig_compile_command.proofs.Complete as compiles
+use Rattle.sig_image_command.proofs.Complete as images
 use Rattle.sig_load_command.proofs.Complete as loads
-use Rattle.sig_plays.proofs.Complete as plays
-use Rattle.sig_runs.proofs.Complete as runs
+use Rattle.sig_play_command.proofs.Complete as plays
+use Rattle.sig_loaded.proofs.Complete as runs
 
 pub one_outcome : (held : Contents) (c : Command) (one other : Outcome) → ComesTo held c one → ComesTo held c other → one ≡ other
 one_outcome held (Run program flows settings) one other = one_run_outcome program flows settings held one other

@@ -16,7 +16,7 @@ use Rattle.sig_tool.specs.TopCall.{ComesTo, NeedsBeyondBound, HasBegun, IfLoad, 
 
 -- ==== the sentence ==================================================================================================
 
--- "If the compiler accepts a process": `IsAcceptedProgram` of sig_compile, over the bytes of the program. The text has a
+-- "If the compiler accepts a process": `IsAcceptedProgram` of sig_program, over the bytes of the program. The text has a
 -- tree by the grammar, is well formed, nothing in it is too large, and its kernel is accepted: it has a root, each of its
 -- clocks is determined, no condition is forced, no operation waits for itself. `check` and all commands that compile answer
 -- by this definition (clauses `whole` and `refused`), want of memory and of the nodes of diagrams aside.
@@ -127,7 +127,7 @@ HasFlowsOfPaces bytes own kernel least = (flows : List (List ℤ)) → AreFlowsF
 
 -- "every finished run, threaded or not": the commands `run`, with any number of workers, and `play`. What they promise are
 -- the clauses `run` and `play` below, over the same `IsKernelEnd`; so that trace, text and cause are these, by `ends` and `written`. With workers,
--- what the threads did is a finished state of one of the interleavings above (`settled_actors_are_finished` of sig_settling,
+-- what the threads did is a finished state of one of the interleavings above (`settled_actors_are_finished` of sig_settling_laws,
 -- `gather` of sig_work).
 
 -- ==== what the top call promises ====================================================================================
@@ -165,8 +165,8 @@ WritesThePlay words contents took out out' Said status = IsEnded status → OfPl
     HasPlay held program flows events settings status (λ text. took out text out') Said))
 
 -- Clause `build`: a build with status 0 wrote the bytes of the image of the accepted program that its file holds, no more than
--- 67,108,864. All plans of a kernel have one image (`images_of_kernels_are_one` of sig_images); by
--- `images_run_as_their_kernels` of sig_images it is sound, and its run over flows that fit has the text of the one trace, and
+-- 67,108,864. All plans of a kernel have one image (`images_of_kernels_are_one` of sig_image_command); by
+-- `images_run_as_their_kernels` of sig_image_command it is sound, and its run over flows that fit has the text of the one trace, and
 -- `exec` over it comes to the outcome of `run` over the program (`built_images_come_to_what_their_programs_do`).
 abbrev pub WritesTheImage : {S : Type 0} → List Word → Option Contents → (S → List ℕ → S → Type 0) → (out out' : S) → (status : ℕ) → Type 0
 WritesTheImage words contents took out out' status = status ≡ 0 → OfBuild words (λ program. IfSome contents (λ held.

@@ -15,22 +15,23 @@ pub use Rattle.sig_words.specs.declared.command.Command.{Command}
 pub use Rattle.sig_words.specs.declared.command.Command.TheVariants.{Build, Check, Code, Exec, Judge, Load, Play, Print, Run, Tree}
 pub use Rattle.sig_load.specs.Program.{program}
 pub use Rattle.sig_outcome.specs.Tasks.{IsCut, IsDone, IsDue, IsRefused, IsRefusedBy, MayAnswer, image_line, items_line, words_line, write_line}
-pub use Rattle.sig_compile.specs.Acceptance.{HasOwnKernel, IsAcceptedProgram}
-pub use Rattle.sig_compile.specs.Compiling.{CompileComesTo, IsBeyondBound, IsCompileStatus, IsVerdictText}
-pub use Rattle.sig_compile.specs.Complete.{CanCompile, CanPrint}
-pub use Rattle.sig_compile.specs.Prelude.{IsCodeText, IsTreeText}
-pub use Rattle.sig_compile.specs.Printing.{IsAboutText, IsPrintStatus, PrintComesTo}
+pub use Rattle.sig_program.specs.Acceptance.{HasOwnKernel, IsAcceptedProgram}
+pub use Rattle.sig_program.specs.Programs.{IsBeyondBound, IsCompileStatus}
+pub use Rattle.sig_compile_command.specs.Compiling.{CompileComesTo, IsVerdictText}
+pub use Rattle.sig_compile_command.specs.Complete.{CanCompile, CanPrint}
+pub use Rattle.sig_compile_command.specs.Prelude.{IsCodeText, IsTreeText}
+pub use Rattle.sig_compile_command.specs.Printing.{IsAboutText, IsPrintStatus, PrintComesTo}
 pub use Rattle.sig_judge_command.specs.Judging.{HasBegunJudge, IsAboutJudge, IsJudgeStatus, JudgeComesTo}
-pub use Rattle.sig_runs.specs.Complete.{CanRun}
-pub use Rattle.sig_runs.specs.Prelude.{AreFlowsFor, Contents, Ended, HoldsBeyondBound, IsAboutPlan, IsEnded, IsKernelEnd, Kernel, Outcome, Performs, Refusal, Rose, SaysLine, Settings, Task, TookPrefix, Trace, WORKERS_MAX, memory_line, name_where_there, output_text}
-pub use Rattle.sig_runs.specs.Runs.{AreWithinBounds, HasBegunRun, HasRun, IsAboutRun, IsRunStatus, RunComesTo, running}
+pub use Rattle.sig_loaded.specs.Complete.{CanRun}
+pub use Rattle.sig_loaded.specs.Prelude.{AreFlowsFor, Contents, Ended, HoldsBeyondBound, IsAboutPlan, IsEnded, IsKernelEnd, Kernel, Outcome, Performs, Refusal, Rose, SaysLine, Settings, Task, TookPrefix, Trace, WORKERS_MAX, memory_line, name_where_there, output_text}
+pub use Rattle.sig_loaded.specs.Runs.{AreWithinBounds, HasBegunRun, HasRun, IsAboutRun, IsRunStatus, RunComesTo, running}
 pub use Rattle.sig_load_command.specs.Complete.{CanLoad}
 pub use Rattle.sig_load_command.specs.Loads.{IsLoadStatus, IsShortProgram, LoadComesTo, loading}
 pub use Rattle.sig_load_command.specs.Refusals.{IsAboutLoad}
-pub use Rattle.sig_plays.specs.Complete.{CanPlay}
-pub use Rattle.sig_plays.specs.Prelude.{Core, Event, Given, IsPlanOf, PlanView, after, reactions_text, run_of}
-pub use Rattle.sig_plays.specs.Plays.{HasBegunPlay, HasPlay, IsAboutPlay, PlayComesTo}
-pub use Rattle.sig_images.specs.Builds.{BuildComesTo, HasBuilt, HasLongImage, IsAboutBuild, IsBuildStatus, building}
-pub use Rattle.sig_images.specs.Complete.{CanBuild, CanExec}
-pub use Rattle.sig_images.specs.Execs.{ExecComesTo, HasBegunExec, HasExecuted, IsAboutExec, IsExecStatus, executing}
-pub use Rattle.sig_images.specs.ImageFiles.{AreBytes, HoldsBeyondVerifying, HoldsSoundImage}
+pub use Rattle.sig_play_command.specs.Complete.{CanPlay}
+pub use Rattle.sig_play_command.specs.Prelude.{Core, Event, Given, IsPlanOf, PlanView, after, reactions_text, run_of}
+pub use Rattle.sig_play_command.specs.Plays.{HasBegunPlay, HasPlay, IsAboutPlay, PlayComesTo}
+pub use Rattle.sig_image_command.specs.Builds.{BuildComesTo, HasBuilt, HasLongImage, IsAboutBuild, IsBuildStatus, building}
+pub use Rattle.sig_image_command.specs.Complete.{CanBuild, CanExec}
+pub use Rattle.sig_image_command.specs.Execs.{ExecComesTo, HasBegunExec, HasExecuted, IsAboutExec, IsExecStatus, executing}
+pub use Rattle.sig_image_command.specs.ImageFiles.{AreBytes, HoldsBeyondVerifying, HoldsSoundImage}

@@ -4,7 +4,7 @@ ghost use Rattle.std.specs.Prelude.{◌≡◌, true};
 ghost use Rattle.sig_tool.specs.Prelude.{ℕ, ℤ, List, Bool, false, Option, AreFlowsFor, Ended, GetsPaces, HasOwnKernel, HasTracesOf, IsAcceptedProgram, IsKernelEnd, Kernel, Place, Trace};
 ghost use Rattle.sig_tool.specs.Headline.{HasFlowsOfPaces, KeepsHeadline, KeepsHeadlineWithFlag};
 
-use sig_deciding::{
+use sig_deciding_laws::{
     accepted_kernels_have_one_end, accepted_kernels_have_plans,
     ends_of_plans_are_those_of_their_kernels,
 };
@@ -15,7 +15,7 @@ use sig_pace::{
     paced_kernels_have_the_old_traces, paces_write_nothing, traces_fit_the_flows_of_paces,
     traces_have_paces,
 };
-use sig_schedules::{
+use sig_schedule_laws::{
     events_are_enabled_until_all_have_ended, finished_states_have_the_end,
     states_begin_the_longest_trace,
 };

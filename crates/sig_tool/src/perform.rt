@@ -6,12 +6,12 @@ ghost use Rattle.sig_tool.specs.Commands.{IsLimited};
 ghost use Rattle.sig_tool.specs.TopCall.{IfLoad, task_of};
 
 use sig_base::Text;
-use sig_compile::{Product, compile_command, print_command};
-use sig_images::{build_command, exec_command};
+use sig_compile_command::{Product, compile_command, print_command};
+use sig_image_command::{build_command, exec_command};
 use sig_judge_command::judge_command;
 use sig_load_command::load_command;
-use sig_plays::play_command;
-use sig_runs::run_command;
+use sig_play_command::play_command;
+use sig_run_command::run_command;
 use sig_text::{Files, Gate, Sink};
 use sig_words::{Command, Settings};
 use std::alloc::Global;

@@ -8,13 +8,13 @@ ghost use Rattle.sig_tool.specs.TopCall.{AreNoCommand, ComesTo, IsStatus, OfComm
 
 use crate::perform::perform;
 use crate::words::command_of;
-use sig_compile::programs_have_an_outcome;
-use sig_images::{builds_have_one_outcome, execs_have_one_outcome};
+use sig_compile_command::programs_have_an_outcome;
+use sig_image_command::{builds_have_one_outcome, execs_have_one_outcome};
 use sig_judge_command::judges_have_one_outcome;
 use sig_load_command::loads_have_one_outcome;
 use sig_outcome::{say_no_memory, say_words};
-use sig_plays::plays_have_one_outcome;
-use sig_runs::runs_have_one_outcome;
+use sig_play_command::plays_have_one_outcome;
+use sig_run_command::runs_have_one_outcome;
 use sig_text::{Files, Gate, Sink};
 use sig_words::WordsAnswer;
 use std::alloc::Global;

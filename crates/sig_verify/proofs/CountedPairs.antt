@@ -1,5 +1,5 @@
 -- How many pairs there were, up to an operation.
-use Rattle.sig_verify.proofs.Common.{◌≡◌, ℕ, ◌+◌, ◌*◌, ◌<◌, ◌≤◌, ◌^◌, List, [], length, Some, ap, arith, mul-le-mul, pow_pos, slice_get, ImageView, IsImage, IsOperation, MayDo, Scope, scope_of, ImageOp, ImageOpKind, each_at, count_few, operands_of, IsWant, IsTired, Budget, DdAnswer, NODES, OutOfMemory, IsBeyondBound, Work}
+use Rattle.sig_verify.proofs.Common.{◌≡◌, ℕ, ◌+◌, ◌*◌, ◌<◌, ◌≤◌, ◌^◌, [], length, Some, arith, mul-le-mul, pow_pos, slice_get, ImageView, IsImage, IsOperation, MayDo, Scope, scope_of, ImageOp, ImageOpKind, each_at, count_few, operands_of, IsWant, IsTired, Budget, DdAnswer, NODES, OutOfMemory, IsBeyondBound, Work}
 use Rattle.sig_file.specs.declared.images.ImageOpKind.TheVariants as does
 use Rattle.sig_verify.proofs.Taken.{four}
 

@@ -1,5 +1,5 @@
 -- What is found out of an operation, and of all.
-use Rattle.sig_verify.proofs.Common.{◌≡◌, ℕ, ◌+◌, ◌*◌, ◌<◌, ◌≤◌, Bool, true, false, List, [], length, ◌^◌, ◌⊎◌, Option, None, Some, Result, Ok, Err, inl, inr, sym, ap, subst, ◌∙◌, arith, cases_lt, length-map, same_Some, slice_get_cases, slice_get_within, HashMap, get, ◌↔◌, Contains, IfErr, IfOk, IsTrue, nat_eq, slice_get, FunOp, Operand, Sig, ImageOpKind, IsSoundImage, IsSoundOperation, Reads, guarded_in, guards_of, ImageView, IsImage, IsOperation, scope_of, ImageOp, each_at, AreGood, AreOf, AreTold, IsGood, IsGuard, IsWrittenWhere, asked, choices, guard_at, operands_of, target_of, Follows, IsRefusal, IsFree, IsKnown, IsSoundAt, IsTakenIn, IsWant, IsFirstUnsound, DdAnswer, Ref, SigId, Diagrams, IsTired, Work, Verifier, IfOk-weaker}
+use Rattle.sig_verify.proofs.Common.{nat_cmp, ◌≡◌, ℕ, ◌+◌, ◌*◌, ◌<◌, ◌≤◌, Bool, true, false, List, [], length, ◌^◌, ◌⊎◌, Option, None, Some, Result, Ok, Err, inl, inr, sym, ap, subst, ◌∙◌, arith, cases_lt, length-map, same_Some, slice_get_cases, slice_get_within, BTreeMap, get, ◌↔◌, Contains, IfErr, IfOk, IsTrue, nat_eq, slice_get, FunOp, Operand, Sig, ImageOpKind, IsSoundImage, IsSoundOperation, Reads, guarded_in, guards_of, ImageView, IsImage, IsOperation, scope_of, ImageOp, each_at, AreGood, AreOf, AreTold, IsGood, IsGuard, IsWrittenWhere, asked, choices, guard_at, operands_of, target_of, Follows, IsRefusal, IsFree, IsKnown, IsSoundAt, IsTakenIn, IsWant, IsFirstUnsound, DdAnswer, Ref, SigId, Diagrams, IsTired, Work, Verifier, IfOk-weaker}
 use Rattle.sig_file.specs.declared.images.ImageOpKind.TheVariants as does
 use Rattle.sig_verify.proofs.Sound.{asks_all, op_sound, reads_all, target_free}
 use Rattle.sig_verify.proofs.Stays.{are_good_kept}
@@ -9,9 +9,9 @@ use Rattle.sig_verify.proofs.Taken.{calls_for, known_next, told_mid, wants}
 
 -- ---- a guard
 
-pub good_added : {S T : Type 0} (c : ℕ) (old new : Diagrams) → Follows c old new → (image : ImageView) (written : HashMap ℕ Ref S) → AreOf old written
-    → (was is : HashMap ℕ Ref T) → AreGood old image written was → (n : ℕ) (r : Ref) → IsGood new image written n r
-    → get nat_eq is n ≡ Some r → ((k : ℕ) → nat_eq n k ≡ false → get nat_eq is k ≡ get nat_eq was k) → AreGood new image written is
+pub good_added : (c : ℕ) (old new : Diagrams) → Follows c old new → (image : ImageView) (written : BTreeMap ℕ Ref) → AreOf old written
+    → (was is : BTreeMap ℕ Ref) → AreGood old image written was → (n : ℕ) (r : Ref) → IsGood new image written n r
+    → get nat_cmp is n ≡ Some r → ((k : ℕ) → nat_eq n k ≡ false → get nat_cmp is k ≡ get nat_cmp was k) → AreGood new image written is
 good_added c old new follows image written of was is good n r here at others =
     entry_added (IsGood new image written) was is n r here at others (are_good_kept c old new follows image written of was good)
 

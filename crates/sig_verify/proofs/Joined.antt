@@ -1,5 +1,5 @@
 -- What is told of a node, call by call.
-use Rattle.sig_verify.proofs.Common.{◌≡◌, ℕ, Bool, List, ap, ◌∙◌, arith, HashMap, ◌&&◌, if◌then◌else◌, AreOf, asked, Follows, IsFor, IsOf, IsRefusal, DdAnswer, ImageView, Ref, test, truth_of, Diagrams}
+use Rattle.sig_verify.proofs.Common.{◌≡◌, ℕ, Bool, List, ap, ◌∙◌, arith, BTreeMap, ◌&&◌, if◌then◌else◌, AreOf, asked, Follows, IsFor, IsOf, IsRefusal, DdAnswer, ImageView, Ref, test, truth_of, Diagrams}
 use Rattle.sig_verify.proofs.Calls.{for_kept, for_same, test_kept}
 use Rattle.sig_verify.proofs.Spent.{refusal_more, refusal_then}
 use Rattle.sig_verify.proofs.Stays.{are_of_kept, asked_kept}
@@ -11,7 +11,7 @@ module _ (d0 d1 d2 : Diagrams) (first : Follows 2 d0 d1) (second : Follows 2 d1 
   pub third_refused : (answer : DdAnswer) → IsRefusal d2 1 answer → IsRefusal d0 5 answer
   third_refused answer h = refusal_then 2 3 d0 d1 first answer (refusal_then 2 1 d1 d2 second answer h)
 
-  module _ {S : Type 0} (image : ImageView) (written : HashMap ℕ Ref S) (are : AreOf d0 written) where
+  module _ (image : ImageView) (written : BTreeMap ℕ Ref) (are : AreOf d0 written) where
     pub still_of : AreOf d2 written
     still_of = are_of_kept 2 d1 d2 second written (are_of_kept 2 d0 d1 first written are)
 

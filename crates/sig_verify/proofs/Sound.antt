@@ -1,5 +1,5 @@
 -- What makes an operation sound.
-use Rattle.sig_verify.proofs.Common.{◌≡◌, ℕ, ◌+◌, Bool, true, List, Option, None, Some, inl, inr, refl, sym, ap, subst, ◌∙◌, ◌⊎◌, arith, cases_lt, same_Some, slice_get-map, HashMap, ◌↔◌, option_map, slice_get, Guarded, IsSoundOperation, IsWrittenBefore, Reads, Writes, guarded_in, guards_of, ImageOp, ImageOpKind, IsGood, IsWrittenWhere, all_asked, asked, asked_of, guard_at, is_written, target_of, IsSoundAt, Asks, ImageView, Ref, SigId, test, value_at, Diagrams}
+use Rattle.sig_verify.proofs.Common.{◌≡◌, ℕ, ◌+◌, Bool, true, List, Option, None, Some, inl, inr, refl, sym, ap, subst, ◌∙◌, ◌⊎◌, arith, cases_lt, same_Some, slice_get-map, BTreeMap, ◌↔◌, option_map, slice_get, Guarded, IsSoundOperation, IsWrittenBefore, Reads, Writes, guarded_in, guards_of, ImageOp, ImageOpKind, IsGood, IsWrittenWhere, all_asked, asked, asked_of, guard_at, is_written, target_of, IsSoundAt, Asks, ImageView, Ref, SigId, test, value_at, Diagrams}
 use Rattle.sig_file.specs.declared.images.ImageOpKind.TheVariants as does
 use Rattle.sig_verify.proofs.Asks.{asked_all, asked_each}
 
@@ -57,7 +57,7 @@ module _ (image : ImageView) (n : ℕ) (op : ImageOp) (at : slice_get image.ops 
   pub sound_at : IsSoundOperation (guards_of image) n (guarded_in image.nodes op) → IsSoundAt image n
   sound_at sound other is = subst (IsSoundOperation (guards_of image) n) (same_Some (guarded_in image.nodes op) other (sym at_guarded ∙ is)) sound
 
-  module _ {S : Type 0} (d : Diagrams) (written : HashMap ℕ Ref S)
+  module _ (d : Diagrams) (written : BTreeMap ℕ Ref)
       (told : (x : SigId) (truths : List Bool) → (is_written d.store.nodes written x.0 truths ≡ true) ↔ IsWrittenBefore (guards_of image).ops n truths x) where
     -- a sound operation's guard asks only for what was written
     pub asks_all : IsSoundAt image n → (truths : List Bool) → all_asked (asked d image written) (guard_at image op.guard) truths ≡ true

@@ -1,5 +1,5 @@
 -- What is known once an operation is taken in, and why one is not.
-use Rattle.sig_verify.proofs.Common.{◌≡◌, ℕ, ◌+◌, ◌*◌, ◌<◌, ◌≤◌, ◌^◌, zero, suc, Bool, true, false, List, length, Option, None, Some, inl, inr, refl, sym, ap, subst, ◌∙◌, ◌⊎◌, arith, mul-le-mul, pow-suc, get, ◌↔◌, ◌||◌, ◌&&◌, nat_eq, slice_get, eq-eqb, eqb-true, IsWrittenBefore, Writes, guarded_in, guards_of, ImageOp, AreGood, AreTold, IsGood, IsScene, IsTold, asked, asked_of, choices, guard_at, is_written, target_of, Follows, IsRefusal, IsKnown, IsTakenIn, IsWant, is_target, IsBeyondBound, Budget, DdAnswer, ImageView, IsImage, NODES, OutOfMemory, Ref, SigId, test, value_at, Diagrams, Verifier, Told, and_from, and_parts, or_left, or_right}
+use Rattle.sig_verify.proofs.Common.{nat_cmp, ◌≡◌, ℕ, ◌+◌, ◌*◌, ◌<◌, ◌≤◌, ◌^◌, zero, suc, Bool, true, false, List, length, Option, None, Some, inl, inr, refl, sym, ap, subst, ◌∙◌, ◌⊎◌, arith, mul-le-mul, pow-suc, get, ◌↔◌, ◌||◌, ◌&&◌, nat_eq, slice_get, eq-eqb, eqb-true, IsWrittenBefore, Writes, guarded_in, guards_of, ImageOp, AreGood, AreTold, IsGood, IsScene, IsTold, asked, asked_of, choices, guard_at, is_written, target_of, Follows, IsRefusal, IsKnown, IsTakenIn, IsWant, is_target, IsBeyondBound, Budget, DdAnswer, ImageView, IsImage, NODES, OutOfMemory, Ref, SigId, test, value_at, Diagrams, Verifier, Told, and_from, and_parts, or_left, or_right}
 use Rattle.sig_verify.proofs.Asks.{asked_more}
 use Rattle.sig_verify.proofs.Calls.{for_kept, of_kept, test_kept}
 use Rattle.sig_verify.proofs.GuardNodes.{few_choices}
@@ -125,9 +125,9 @@ module _ (image : ImageView) (n : ℕ) (op : ImageOp) (at : slice_get image.ops 
     known_next few few_pairs = record {
       scene = record { right = followed.right; conditions = followed.conditions ∙ scene_mid.conditions; of = taken.of };
       good = subst (λ g. AreGood new.diagrams image new.written g) (sym guards)
-          (λ k. if_some (IsGood mid.diagrams image mid.written k) (IsGood new.diagrams image new.written k) (good_next k) (get nat_eq mid.guards k) (good k));
+          (λ k. if_some (IsGood mid.diagrams image mid.written k) (IsGood new.diagrams image new.written k) (good_next k) (get nat_cmp mid.guards k) (good k));
       told = subst (λ g. AreTold false new.diagrams image (asked new.diagrams image new.written) g) (sym tells)
-          (λ k. if_some (IsTold false mid.diagrams image (asked mid.diagrams image mid.written) k) (IsTold false new.diagrams image (asked new.diagrams image new.written) k) (told_next k) (get nat_eq mid.told k) (all_told k));
+          (λ k. if_some (IsTold false mid.diagrams image (asked mid.diagrams image mid.written) k) (IsTold false new.diagrams image (asked new.diagrams image new.written) k) (told_next k) (get nat_cmp mid.told k) (all_told k));
       written = λ x truths. (wrote x truths, written_before x truths);
       calls = few;
       pairs = few_pairs;

@@ -1,5 +1,5 @@
 -- What is told of a node, by what is told of its children.
-use Rattle.sig_verify.proofs.Common.{◌≡◌, ℕ, ◌+◌, ◌-◌, ◌*◌, ◌<◌, ◌≤◌, Bool, true, false, List, Some, inl, inr, sym, ap, subst, ◌∙◌, arith, cases_eq, HashMap, ◌&&◌, if◌then◌else◌, nat_eq, slice_get, ImageNode, AreOf, IsTold, all_asked, asked, choices, guard_at, Follows, IsFor, IsRefusal, Constant, DdAnswer, Diagram, ImageView, IsImage, Ref, test, truth_of, value_at, Diagrams, Told, and_from, and_parts}
+use Rattle.sig_verify.proofs.Common.{◌≡◌, ℕ, ◌+◌, ◌-◌, ◌*◌, ◌<◌, ◌≤◌, Bool, true, false, List, Some, inl, inr, sym, ap, subst, ◌∙◌, arith, cases_eq, BTreeMap, ◌&&◌, if◌then◌else◌, nat_eq, slice_get, ImageNode, AreOf, IsTold, all_asked, asked, choices, guard_at, Follows, IsFor, IsRefusal, Constant, DdAnswer, Diagram, ImageView, IsImage, Ref, test, truth_of, value_at, Diagrams, Told, and_from, and_parts}
 use Rattle.sig_verify.proofs.Calls.{for_same}
 use Rattle.sig_verify.proofs.GuardNodes.{guard_choice, guard_false, guard_true}
 use Rattle.sig_verify.proofs.Spent.{follows_more, follows_then, refusal_more, refusal_then}
@@ -80,7 +80,7 @@ module _ (image : ImageView) (is : IsImage image) (n : ℕ) (node : ImageNode) (
       refusal_more (5 * choices (guard_at image node.low) + (5 * choices (guard_at image node.high) + 5)) (5 * choices (guard_at image n)) (omega (arith, all)) old answer
       (refusal_then (5 * choices (guard_at image node.low)) (5 * choices (guard_at image node.high) + 5) old mid a answer (refusal_then (5 * choices (guard_at image node.high)) 5 mid high b answer h))
 
-  module _ {S : Type 0} (exact : Bool) (written : HashMap ℕ Ref S) (mid high new : Diagrams) (of : AreOf high written) (mid_of : AreOf mid written)
+  module _ (exact : Bool) (written : BTreeMap ℕ Ref) (mid high new : Diagrams) (of : AreOf high written) (mid_of : AreOf mid written)
       (more : Follows (5 * choices (guard_at image node.high)) mid high) (last : Follows 5 high new) (low_told high_told own : Told)
       (low_is : IsTold exact mid image (asked mid image written) node.low low_told) (high_is : IsTold exact high image (asked high image written) node.high high_told)
       (function : IsFor new (λ ts. if truth_of ts node.variable then test high.store.nodes high_told.function ts else test high.store.nodes low_told.function ts) own.function)

@@ -1,5 +1,6 @@
 -- What the definitions and the clauses of this crate cite of std and of the crates below, passed on from one place.
-pub use Rattle.std.specs.HashMap.{HashMap, get}
+pub use Rattle.std.specs.BTreeMap.{BTreeMap, get}
+pub use Rattle.std.specs.Ordering.{nat_cmp}
 pub use Rattle.std.specs.HashSet.{HashSet, contains}
 pub use Rattle.std.specs.List.{range_with_len}
 pub use Rattle.std.specs.Prelude.{Bool, Contains, IfErr, IfOk, IfSome, IsErrAnd, IsTrue, List, None, OnErr, OnOk, Option, Some, false, length, nat_eq, slice_get, suc, true, zero, ℕ}

@@ -7,11 +7,11 @@ ghost use Rattle.sig_verify.specs.inner.Pairs.{IsTired};
 
 use crate::pairs::Work;
 use sig_base::limits::NODES;
-use sig_dd::{DdAnswer, Ref, Store};
+use sig_dd::{DdAnswer, Keyed, Ref, Store};
 use std::alloc::Global;
 
 /// The most calls that make diagrams. So many are needed only where the nodes of diagrams might not suffice either.
-const CALLS: u32 = 32_000_000;
+const CALLS: u32 = NODES;
 
 /// A store of diagrams over so many conditions, and how many calls have made diagrams in it.
 #[derive(Drop)]
@@ -22,15 +22,15 @@ pub(crate) struct Diagrams {
 }
 
 impl Diagrams {
-    /// No diagrams, over so many conditions.
-    pub(crate) fn new(alloc: Global, conditions: usize) -> Result<Diagrams, DdAnswer>
+    /// No diagrams, over so many conditions; they are hashed by a key.
+    pub(crate) fn new(alloc: Global, conditions: usize, keyed: Keyed) -> Result<Diagrams, DdAnswer>
         ensures right { IfOk result AreDiagrams }
         ensures conditions { IfOk result (λ diagrams. diagrams.conditions ≡ conditions) }
         ensures calls { IfOk result (λ diagrams. diagrams.calls ≡ 0) }
         ensures memory { IfErr result (λ answer. answer ≡ DdAnswer.OutOfMemory) }
     {
         Ok(Diagrams {
-            store: Store::new(alloc, NODES)?,
+            store: Store::keyed(alloc, NODES, keyed)?,
             conditions,
             calls: 0,
         })

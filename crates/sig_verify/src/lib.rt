@@ -5,6 +5,7 @@
 
 mod answer;
 mod diagrams;
+mod key;
 mod laws;
 mod pairs;
 mod parts;

@@ -7,17 +7,18 @@ ghost use Rattle.sig_verify.specs.inner.Pairs.{HoldsBoth, IsPairStep, IsTired, I
 
 use crate::diagrams::Diagrams;
 use sig_base::limits::NODES;
-use sig_dd::{DdAnswer, Node, Ref};
+use sig_dd::{DdAnswer, Keyed, Node, Ref};
 use std::alloc::Global;
 use std::collections::HashSet;
 
 /// The most pairs that are compared. So many are needed only where the nodes of diagrams might not suffice either.
-const PAIRS: u32 = 64_000_000;
+const PAIRS: u32 = NODES;
 
 /// How many pairs were compared.
 #[derive(Drop)]
 pub(crate) struct Work {
     pub(crate) pairs: u32,
+    keyed: Keyed,
     alloc: Global,
 }
 
@@ -58,10 +59,14 @@ fn side(node: Option<Node>, r: Ref, variable: u32, truth: bool) -> Ref
 
 impl Work {
     /// None was compared yet.
-    pub(crate) fn new(alloc: Global) -> Work
+    pub(crate) fn new(alloc: Global, keyed: Keyed) -> Work
         ensures { result.pairs ≡ 0 }
     {
-        Work { pairs: 0, alloc }
+        Work {
+            pairs: 0,
+            keyed,
+            alloc,
+        }
     }
 
     /// One more pair, unless there were too many.
@@ -95,7 +100,7 @@ impl Diagrams {
         ensures counted { work.new.pairs ≤ work.old.pairs + 2 ^ self.now.conditions }
         ensures refused { IfErr result (IsTired work.old (2 ^ self.now.conditions)) }
     {
-        let mut apart = HashSet::new(work.alloc);
+        let mut apart = HashSet::with_hasher(work.alloc, work.keyed);
         self.meets_in(work, &mut apart, Pair { first, second }, truth)
     }
 
@@ -103,7 +108,7 @@ impl Diagrams {
     fn meets_in(
         &self,
         work: &mut Work,
-        apart: &mut HashSet<Pair>,
+        apart: &mut HashSet<Pair, Keyed>,
         pair: Pair,
         truth: bool,
     ) -> Result<bool, DdAnswer>

@@ -8,6 +8,7 @@ ghost use Rattle.sig_verify.specs.inner.Pairs.{IsTired};
 ghost use Rattle.sig_verify.specs.inner.Known.{IsFree, IsKnown, IsSoundAt, IsTakenIn, IsWant};
 
 use crate::diagrams::Diagrams;
+use crate::key::key_of;
 use crate::pairs::Work;
 use crate::parts::{conditions_of, op_at};
 use crate::reads::{reads_written, target};
@@ -17,7 +18,7 @@ use sig_base::SigId;
 use sig_dd::{DdAnswer, Ref};
 use sig_file::Image;
 use std::alloc::Global;
-use std::collections::HashMap;
+use std::collections::BTreeMap;
 
 /// What is known behind the first operations of an image: for which proposals each signal was written, the guards whose
 /// walks ask only for conditions that were written, and what was told of the nodes below these.
@@ -26,8 +27,8 @@ pub(crate) struct Verifier {
     pub(crate) diagrams: Diagrams,
     pub(crate) work: Work,
     pub(crate) written: Written,
-    pub(crate) guards: HashMap<u32, Ref>,
-    pub(crate) told: HashMap<u32, Told>,
+    pub(crate) guards: BTreeMap<u32, Ref>,
+    pub(crate) told: BTreeMap<u32, Told>,
     alloc: Global,
 }
 
@@ -37,12 +38,13 @@ impl Verifier {
         ensures known { IfOk result (IsKnown image.now 0) }
         ensures memory { IfErr result (λ answer. answer ≡ OutOfMemory) }
     {
+        let keyed = key_of(image);
         Ok(Verifier {
-            diagrams: Diagrams::new(alloc, conditions_of(image))?,
-            work: Work::new(alloc),
-            written: HashMap::new(alloc),
-            guards: HashMap::new(alloc),
-            told: HashMap::new(alloc),
+            diagrams: Diagrams::new(alloc, conditions_of(image), keyed)?,
+            work: Work::new(alloc, keyed),
+            written: BTreeMap::new(alloc),
+            guards: BTreeMap::new(alloc),
+            told: BTreeMap::new(alloc),
             alloc,
         })
     }
@@ -89,7 +91,7 @@ impl Verifier {
         }
         // More may have been written since the nodes were walked. No image of a plan comes here: each of its conditions is
         // written by one operation.
-        self.told = HashMap::new(self.alloc);
+        self.told = BTreeMap::new(self.alloc);
         self.tell(image, n)
     }
 

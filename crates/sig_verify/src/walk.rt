@@ -12,7 +12,7 @@ use crate::written::{Written, asked_at};
 use sig_dd::{DdAnswer, Ref};
 use sig_file::Image;
 use std::alloc::AllocError;
-use std::collections::HashMap;
+use std::collections::BTreeMap;
 
 /// What is told of a node: its function, and the proposals for which each condition that the walk from it asks was
 /// written when the node was walked.
@@ -69,7 +69,7 @@ pub(crate) fn walk(
     diagrams: &mut Diagrams,
     image: &Image,
     written: &Written,
-    told: &mut HashMap<u32, Told>,
+    told: &mut BTreeMap<u32, Told>,
     n: u32,
 ) -> Result<Told, DdAnswer>
     requires scene { IsScene diagrams.old image.now written.now }
@@ -99,7 +99,7 @@ pub(crate) fn walk(
 }
 
 /// Keeps what is told of a node.
-fn keep_told(told: &mut HashMap<u32, Told>, n: u32, own: Told) -> Result<(), AllocError>
+fn keep_told(told: &mut BTreeMap<u32, Told>, n: u32, own: Told) -> Result<(), AllocError>
     ensures { OnOk result ((exact : Bool) (diagrams : Diagrams) (image : ImageView) (written : ℕ → List Bool → Bool)
         → IsTold exact diagrams image written n own → AreTold exact diagrams image written told.old → AreTold exact diagrams image written told.new) }
 {

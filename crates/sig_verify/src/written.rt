@@ -1,7 +1,7 @@
 //! Which signals were written, and for which proposals.
 
 ghost use Rattle.std.specs.Prelude.{◌≡◌};
-ghost use Rattle.sig_verify.specs.Prelude.{ℕ, OnOk, Some, false, get, nat_eq};
+ghost use Rattle.sig_verify.specs.Prelude.{ℕ, OnOk, Some, false, get, nat_cmp, nat_eq};
 ghost use Rattle.sig_verify.specs.inner.Asking.{AreOf, asked, is_written};
 ghost use Rattle.sig_verify.specs.inner.Diagrams.{IsFor};
 
@@ -11,10 +11,10 @@ use sig_base::SigId;
 use sig_dd::Ref;
 use sig_file::Image;
 use std::alloc::AllocError;
-use std::collections::HashMap;
+use std::collections::BTreeMap;
 
 /// For each signal that was written, by its number, the proposals at which it was.
-pub(crate) type Written = HashMap<u32, Ref>;
+pub(crate) type Written = BTreeMap<u32, Ref>;
 
 /// The proposals at which a signal was written.
 pub(crate) fn written_at(diagrams: &Diagrams, written: &Written, x: SigId) -> Ref
@@ -39,9 +39,9 @@ pub(crate) fn asked_at(diagrams: &Diagrams, image: &Image, written: &Written, v:
 }
 
 /// Keeps a diagram under a number.
-pub(crate) fn keep(table: &mut HashMap<u32, Ref>, n: u32, r: Ref) -> Result<(), AllocError>
-    ensures here { OnOk result (get nat_eq table.new n ≡ Some r) }
-    ensures others { OnOk result ((x : ℕ) → nat_eq n x ≡ false → get nat_eq table.new x ≡ get nat_eq table.old x) }
+pub(crate) fn keep(table: &mut BTreeMap<u32, Ref>, n: u32, r: Ref) -> Result<(), AllocError>
+    ensures here { OnOk result (get nat_cmp table.new n ≡ Some r) }
+    ensures others { OnOk result ((x : ℕ) → nat_eq n x ≡ false → get nat_cmp table.new x ≡ get nat_cmp table.old x) }
 {
     table.insert(n, r)?;
     Ok(())

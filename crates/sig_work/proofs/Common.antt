@@ -10,13 +10,13 @@ pub use Rattle.sig_base.specs.Places.{no_place, packed}
 pub use Rattle.sig_base.specs.declared.ids.Full.{Full}
 pub use Rattle.sig_text.specs.Counts.{Rose}
 pub use Rattle.sig_text.specs.declared.sink.WriteFault.{WriteFault}
-pub use Rattle.sig_schedules.proofs.Coded.{actor_coded}
-pub use Rattle.sig_schedules.proofs.Common.{Actor, AreFlowsFor, Cause, CodeView, Collect, Commit, Commits, Core, Do, Event, Fails, Faults, Given, Gives, Goes, Instant, IsAccepted, IsEnd, IsFinished, IsKernelTrace, IsLongest, IsOnReference, IsPrefixOf, IsReference, Kernel, Limit, LinkInfo, NamesWithin, Op, Operation, Outcome, Place, PlanView, Puts, Reaction, Receive, Report, Send, Step, StepKind, Stopped, Takes, Trace, Turn, after, and_from, and_parts, at_most_or, carried, cases_eq, cases_order, cause_at, cause_of, cause_of_op, code_of, contains_at, contains_cons, contains_head, contains_later, contains_none, ended_at, ends_within, fitting, flat_map-append, guard_holds, instructions_of, is_before, moved_on, next_place, no_registers, numbers_of, one_reader, one_writer, opening_actor, operated, operations_in, or_cases, or_left, or_right, outcome, output_text, outputs_of, plan_operations, position_of, range_with_len, reaction_in, reactions_of, reactions_text, received, seen_at, seen_lines, set_here, slice_get-get_or, slice_get_within, some_at, some_reference, step_names, turn, turn_at, turn_by, turn_of_op, turn_with, word_before}
-pub use Rattle.sig_schedules.proofs.Finished.{after_begins, after_has_end}
-pub use Rattle.sig_schedules.proofs.Interleavings.{after_on}
-pub use Rattle.sig_schedules.proofs.Texts.{text_is}
-pub use Rattle.sig_settling.specs.OwnSteps.{IsOwn}
-pub use Rattle.sig_settling.proofs.Common.{ActInOrder, AreBalanced, AreSettled, DoesStep, HasActed, HasEndedBy, HasTurned, IsLeastFailure, IsOwnStep, LeadBy, LookBehind, Own, acts, acts_then_looks, collector_of, commits_alone, opening_own, step_does, sum_by-cons, times_among}
+pub use Rattle.sig_schedule_laws.proofs.Coded.{actor_coded}
+pub use Rattle.sig_schedule_laws.proofs.Common.{Actor, AreFlowsFor, Cause, CodeView, Collect, Commit, Commits, Core, Do, Event, Fails, Faults, Given, Gives, Goes, Instant, IsAccepted, IsEnd, IsFinished, IsKernelTrace, IsLongest, IsOnReference, IsPrefixOf, IsReference, Kernel, Limit, LinkInfo, NamesWithin, Op, Operation, Outcome, Place, PlanView, Puts, Reaction, Receive, Report, Send, Step, StepKind, Stopped, Takes, Trace, Turn, after, and_from, and_parts, at_most_or, carried, cases_eq, cases_order, cause_at, cause_of, cause_of_op, code_of, contains_at, contains_cons, contains_head, contains_later, contains_none, ended_at, ends_within, fitting, flat_map-append, guard_holds, instructions_of, is_before, moved_on, next_place, no_registers, numbers_of, one_reader, one_writer, opening_actor, operated, operations_in, or_cases, or_left, or_right, outcome, output_text, outputs_of, plan_operations, position_of, range_with_len, reaction_in, reactions_of, reactions_text, received, seen_at, seen_lines, set_here, slice_get-get_or, slice_get_within, some_at, some_reference, step_names, turn, turn_at, turn_by, turn_of_op, turn_with, word_before}
+pub use Rattle.sig_schedule_laws.proofs.Finished.{after_begins, after_has_end}
+pub use Rattle.sig_schedule_laws.proofs.Interleavings.{after_on}
+pub use Rattle.sig_schedule_laws.proofs.Texts.{text_is}
+pub use Rattle.sig_settling_laws.specs.OwnSteps.{IsOwn}
+pub use Rattle.sig_settling_laws.proofs.Common.{ActInOrder, AreBalanced, AreSettled, DoesStep, HasActed, HasEndedBy, HasTurned, IsLeastFailure, IsOwnStep, LeadBy, LookBehind, Own, acts, acts_then_looks, collector_of, commits_alone, opening_own, step_does, sum_by-cons, times_among}
 pub use Rattle.sig_link.specs.Ends.{FoundEmpty, FoundFull, IsSettled, OfOneLink, put_capacity, put_link, sent, take_link, taken}
 pub use Rattle.sig_link.specs.declared.put.Put.{Put}
 pub use Rattle.sig_link.specs.declared.take.Take.{Take}

@@ -2,7 +2,7 @@
 
 ghost use Rattle.std.specs.Prelude.{◌≡◌};
 ghost use Rattle.sig_work.specs.declared.answer.DealAnswer.TheVariants.{OutOfMemory};
-ghost use Rattle.sig_work.specs.declared.answer.RunAnswer.TheVariants.{OutOfMemory as NoMemory};
+ghost use Rattle.sig_work.specs.declared.answer.WorkAnswer.TheVariants.{OutOfMemory as NoMemory};
 
 use sig_halt::HaltAnswer;
 use sig_link::LinkAnswer;
@@ -20,7 +20,7 @@ pub enum DealAnswer {
 
 /// The refusals of [`run`](crate::run).
 #[derive(Clone, Copy, Debug, PartialEq, Eq, Error)]
-pub enum RunAnswer {
+pub enum WorkAnswer {
     /// The sink failed. All workers were joined, and a prefix of the text was appended.
     #[error("write failed")]
     WriteFault,
@@ -37,19 +37,19 @@ impl From<AllocError> for DealAnswer {
     }
 }
 
-impl From<DealAnswer> for RunAnswer {
+impl From<DealAnswer> for WorkAnswer {
     ghost from_gives = { λ _ answer. answer ≡ NoMemory };
 
-    fn from(_refused: DealAnswer) -> RunAnswer {
-        RunAnswer::OutOfMemory
+    fn from(_refused: DealAnswer) -> WorkAnswer {
+        WorkAnswer::OutOfMemory
     }
 }
 
-impl From<AllocError> for RunAnswer {
+impl From<AllocError> for WorkAnswer {
     ghost from_gives = { λ _ answer. answer ≡ NoMemory };
 
-    fn from(_refused: AllocError) -> RunAnswer {
-        RunAnswer::OutOfMemory
+    fn from(_refused: AllocError) -> WorkAnswer {
+        WorkAnswer::OutOfMemory
     }
 }
 

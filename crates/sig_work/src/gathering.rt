@@ -16,7 +16,7 @@ use crate::word::{close, least_failure};
 use sig_halt::Halt;
 use sig_kernel::Inputs;
 use sig_plan::{Ended, Plan};
-use sig_settling::{own_steps_are_an_interleaving, settled_actors_have_acted_in_order};
+use sig_settling_laws::{own_steps_are_an_interleaving, settled_actors_have_acted_in_order};
 use std::sync::Wait;
 
 /// Settles all links, joins the seats and closes the word. The answer is the number of the instants that

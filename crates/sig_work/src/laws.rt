@@ -4,7 +4,7 @@
 use crate::ends::LinkEnds;
 use crate::member::Member;
 use crate::share::Share;
-pub use sig_settling::{
+pub use sig_settling_laws::{
     own_steps_are_an_interleaving, settled_actors_are_finished, settled_actors_have_acted_in_order,
 };
 

@@ -1,6 +1,6 @@
 //! The clusters of a plan on worker threads: the actors are dealt to shares, each share is served by one
 //! thread over ruled links and one failure word, and what the shares then hold is gathered. It stands on
-//! sig_step for the steps, on sig_link and sig_halt for what threads share, and on sig_settling for what
+//! sig_step for the steps, on sig_link and sig_halt for what threads share, and on sig_settling_laws for what
 //! all of it comes to.
 #![tactic(auto)]
 
@@ -32,7 +32,7 @@ mod turning;
 mod word;
 mod workers;
 
-pub use answer::{DealAnswer, RunAnswer};
+pub use answer::{DealAnswer, WorkAnswer};
 pub use dealing::deal;
 pub use ends::LinkEnds;
 pub use gathering::gather;

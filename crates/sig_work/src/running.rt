@@ -6,9 +6,9 @@ ghost use Rattle.sig_work.specs.Gathered.{AreDealt};
 ghost use Rattle.sig_work.specs.Members.{run_of};
 ghost use Rattle.sig_work.specs.Running.{AreBegun, AreBegunInSome, AreKept, WereHalted, WereRun};
 ghost use Rattle.sig_work.specs.Shares.{HaveEnded};
-ghost use Rattle.sig_work.specs.declared.answer.RunAnswer.{RunAnswer};
+ghost use Rattle.sig_work.specs.declared.answer.WorkAnswer.{WorkAnswer};
 
-use crate::answer::RunAnswer;
+use crate::answer::WorkAnswer;
 use crate::dealing::deal;
 use crate::gathering::{gather, give_up};
 use crate::plans::plans_are_accepted;
@@ -17,7 +17,7 @@ use crate::share::Share;
 use crate::workers::with_caller;
 use sig_halt::Halt;
 use sig_kernel::{Inputs, a_kernel_has_one_longest_trace};
-use sig_meaning::named_causes_exist_once;
+use sig_meaning_laws::named_causes_exist_once;
 use sig_plan::{Ended, Plan};
 use sig_text::{Gate, Sink, WriteFault};
 use std::alloc::{AllocError, Global};
@@ -40,19 +40,19 @@ pub fn run<R: Threads + Wait + Sync, S: Sink, G: Gate + Sync>(
     workers: u32,
     gate: &G,
     sink: &mut S,
-) -> Result<Ended, RunAnswer>
+) -> Result<Ended, WorkAnswer>
     requires fits { AreFlowsFor plan.now.kernel inputs.now }
     requires capacity { (1 ≤ capacity) × (capacity ≤ 65536) }
     requires limit { limit + 1 < 2 ^ 32 }
     requires workers { workers ≤ 64 }
     ensures whole { IfOk result (IsWholeRun plan.now inputs.now limit S.took sink.old sink.new) }
-    ensures prefix { result ≡ Err RunAnswer.WriteFault → TookSome plan.now inputs.now limit S.took sink.old sink.new }
-    ensures failed { result ≡ Err RunAnswer.WriteFault → Rose (S.faults sink.old) (S.faults sink.new) }
+    ensures prefix { result ≡ Err WorkAnswer.WriteFault → TookSome plan.now inputs.now limit S.took sink.old sink.new }
+    ensures failed { result ≡ Err WorkAnswer.WriteFault → Rose (S.faults sink.old) (S.faults sink.new) }
     ensures faults_stay { S.faults sink.old ≤ S.faults sink.new }
-    ensures memory { result ≡ Err RunAnswer.OutOfMemory → sink.new ≡ sink.old }
+    ensures memory { result ≡ Err WorkAnswer.OutOfMemory → sink.new ≡ sink.old }
 {
     let Ok(start) = prepared(alloc, plan, inputs, capacity, limit, workers) else {
-        return Err(RunAnswer::OutOfMemory);
+        return Err(WorkAnswer::OutOfMemory);
     };
     let Start {
         halt,
@@ -78,7 +78,7 @@ pub fn run<R: Threads + Wait + Sync, S: Sink, G: Gate + Sync>(
         Ok(()) => Ok(gather(rt, plan, inputs, halt, shares)),
         Err(WriteFault) => {
             give_up(rt, plan, inputs, &halt, shares);
-            Err(RunAnswer::WriteFault)
+            Err(WorkAnswer::WriteFault)
         }
     }
 }
@@ -101,7 +101,7 @@ fn prepared(
     capacity: u32,
     limit: u32,
     workers: u32,
-) -> Result<Start, RunAnswer>
+) -> Result<Start, WorkAnswer>
     requires fits { AreFlowsFor plan.now.kernel inputs.now }
     requires capacity { (1 ≤ capacity) × (capacity ≤ 65536) }
     requires limit { limit + 1 < 2 ^ 32 }
@@ -110,7 +110,7 @@ fn prepared(
     ensures mine { IfOk result (λ start. length start.mine.items ≡ 1) }
     ensures room { IfOk result (λ start. length start.others.items + 1 ≤ vec_capacity start.mine) }
     ensures flags { IfOk result (λ start. length start.others.items ≤ length start.refused.items) }
-    ensures memory { IfErr result (λ answer. answer ≡ RunAnswer.OutOfMemory) }
+    ensures memory { IfErr result (λ answer. answer ≡ WorkAnswer.OutOfMemory) }
 {
     let (halt, mut others) = deal(alloc, plan, inputs, capacity, limit, workers)?;
     let mut mine = Vec::with_capacity(alloc, others.len())?;

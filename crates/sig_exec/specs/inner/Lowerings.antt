@@ -10,7 +10,7 @@ use Rattle.sig_cells.specs.declared.instruction.Work.{Work}
 use Rattle.sig_cells.specs.declared.instruction.Work.TheVariants.{Next, Copy, One, Two}
 use Rattle.sig_exec.specs.inner.Functions.{AreFunctions}
 use Rattle.sig_exec.specs.declared.functions.Functions.{Functions}
-use Rattle.sig_exec.specs.declared.lowered.Lowered.{Lowered}
+use Rattle.sig_exec.specs.declared.lowered.ImageInstructions.{ImageInstructions}
 use Rattle.sig_file.specs.declared.images.ImageOpKind.TheVariants as does
 
 -- cells were added
@@ -80,7 +80,7 @@ abbrev pub BeginWith : ImageView → List ℤ → Type 0
 BeginWith image cells = Grows (replicate (length image.signals) (pos 0) ++ inits_of image) cells
 
 -- The instructions of an image.
-pub record Lowers (image : ImageView) (lowered : Lowered) : Type 0 where
+pub record Lowers (image : ImageView) (lowered : ImageInstructions) : Type 0 where
   pub opening : BeginWith image lowered.cells.items
   pub functions : AreFunctions image lowered.functions
   pub instructions : AreFor image lowered.cells.items (instructions_in lowered.code)

@@ -3,8 +3,8 @@ use Rattle.std.specs.Prelude.{◌≡◌, ◌<◌, ◌≤◌, ◌==◌, ◌∷◌
 use Rattle.sig_exec.specs.Prelude.{ℕ, ℤ, List, [], length, drop, take, slice_get, slice_index_or, None, Some, Instant, Seen, ImageView, State}
 use Rattle.sig_cells.specs.Instructions.{Cells, cells_of}
 use Rattle.sig_exec.specs.inner.Lowerings.{bound_of, cell}
-use Rattle.sig_exec.specs.declared.lowered.Lowered.{Lowered}
-use Rattle.sig_exec.specs.declared.machine.Machine.{Machine}
+use Rattle.sig_exec.specs.declared.lowered.ImageInstructions.{ImageInstructions}
+use Rattle.sig_exec.specs.declared.machine.ImageMachine.{ImageMachine}
 
 -- what a cell with a stamp shows of an instant: nothing, where it was written in another one
 abbrev pub shown : ℕ → ℕ → ℤ → Seen
@@ -44,7 +44,7 @@ abbrev pub HaveConstants : ImageView → List ℤ → List ℤ → Type 0
 HaveConstants image constants cells = (number : ℕ) → bound_of image ≤ number → number < length constants → cell cells number ≡ cell constants number
 
 -- Cells are those of an image in this form, over these flows.
-pub record AreCellsOf (image : ImageView) (lowered : Lowered) (flows : List (List ℤ)) (instant : ℕ) (s : Cells) : Type 0 where
+pub record AreCellsOf (image : ImageView) (lowered : ImageInstructions) (flows : List (List ℤ)) (instant : ℕ) (s : Cells) : Type 0 where
   pub cells : length s.values ≡ length lowered.cells.items
   pub stamps : length s.stamps ≡ length lowered.cells.items
   pub constants : HaveConstants image lowered.cells.items s.values
@@ -59,21 +59,21 @@ pub record HaveSignals (image : ImageView) (s : Cells) : Type 0 where
 
 -- ---- by a machine, in its instant
 
-abbrev pub cells_in : Machine → Cells
+abbrev pub cells_in : ImageMachine → Cells
 cells_in m = cells_of m.cells.items m.stamps.items m.taken.items
 
-abbrev pub registers_of : ImageView → Machine → Instant
+abbrev pub registers_of : ImageView → ImageMachine → Instant
 registers_of image m = registers_on image m.instant (cells_in m)
 
-abbrev pub state_of : ImageView → List (List ℤ) → Machine → State
+abbrev pub state_of : ImageView → List (List ℤ) → ImageMachine → State
 state_of image flows m = state_on image flows m.instant (cells_in m)
 
-abbrev pub seen_in : Machine → ℕ → Seen
+abbrev pub seen_in : ImageMachine → ℕ → Seen
 seen_in m x = seen_on m.instant (cells_in m) x
 
 -- a machine is one of an image
-abbrev pub IsMachineOf : ImageView → Lowered → List (List ℤ) → Machine → Type 0
+abbrev pub IsMachineOf : ImageView → ImageInstructions → List (List ℤ) → ImageMachine → Type 0
 IsMachineOf image lowered flows m = AreCellsOf image lowered flows m.instant (cells_in m)
 
-abbrev pub HasCells : ImageView → Machine → Type 0
+abbrev pub HasCells : ImageView → ImageMachine → Type 0
 HasCells image m = HaveSignals image (cells_in m)

@@ -1,9 +1,9 @@
 //! Events of all actors, and runs from there to the end.
 
-ghost use Rattle.sig_core.specs.Cores.{IsCore, IsReached};
+ghost use Rattle.sig_interleaving.specs.Cores.{IsCore, IsReached};
 ghost use Rattle.sig_kernel.specs.Validity.{AreFlowsFor};
 
-use sig_core::{Core, Event};
+use sig_interleaving::{Core, Event};
 use sig_kernel::Inputs;
 use sig_plan::Plan;
 use sig_text::MemSink;

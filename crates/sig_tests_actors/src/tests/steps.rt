@@ -9,7 +9,7 @@ use super::kept::Kept;
 use sig_dd::{Ref, Steps, Store};
 use sig_kernel::Inputs;
 use sig_plan::Plan;
-use sig_schedules::accepted_plans_are_runnable;
+use sig_schedule_laws::accepted_plans_are_runnable;
 use sig_step::{Acted, ClusterState};
 use std::alloc::Global;
 use std::fmt::Write;

@@ -1,6 +1,6 @@
 -- Where signals were written, and what the walks of guards ask for, as functions of the proposals.
 use Rattle.std.specs.Prelude.{◌≡◌, ◌+◌, ◌&&◌, if◌then◌else◌}
-use Rattle.sig_verify.specs.Prelude.{ℕ, Bool, true, false, List, length, slice_get, nat_eq, HashMap, get, Option, None, Some, IfSome, SigId, Diagram, Constant, Choice, truth_of, value_at, diagram, test, Node, Ref, ImageView, ImageOpKind, nodes_in}
+use Rattle.sig_verify.specs.Prelude.{nat_cmp, ℕ, Bool, true, false, List, length, slice_get, BTreeMap, get, Option, None, Some, IfSome, SigId, Diagram, Constant, Choice, truth_of, value_at, diagram, test, Node, Ref, ImageView, ImageOpKind, nodes_in}
 use Rattle.sig_file.specs.declared.images.ImageOpKind.TheVariants as does
 use Rattle.sig_verify.specs.inner.Diagrams.{AreDiagrams, IsFor, IsOf}
 use Rattle.sig_verify.specs.declared.diagrams.Diagrams.{Diagrams}
@@ -14,27 +14,27 @@ true_at nodes None truths = false
 true_at nodes (Some r) truths = test nodes r truths
 
 -- the signal of this number was written
-abbrev pub is_written : {S : Type 0} → List Node → HashMap ℕ Ref S → ℕ → List Bool → Bool
-is_written nodes written x truths = true_at nodes (get nat_eq written x) truths
+abbrev pub is_written : List Node → BTreeMap ℕ Ref → ℕ → List Bool → Bool
+is_written nodes written x truths = true_at nodes (get nat_cmp written x) truths
 
 -- the condition was written; there is nothing to write for a variable that has none
-abbrev pub asked_of : {S : Type 0} → List Node → HashMap ℕ Ref S → Option SigId → List Bool → Bool
+abbrev pub asked_of : List Node → BTreeMap ℕ Ref → Option SigId → List Bool → Bool
 asked_of nodes written None truths = true
 asked_of nodes written (Some x) truths = is_written nodes written x.0 truths
 
-abbrev pub asked : {S : Type 0} → Diagrams → ImageView → HashMap ℕ Ref S → ℕ → List Bool → Bool
+abbrev pub asked : Diagrams → ImageView → BTreeMap ℕ Ref → ℕ → List Bool → Bool
 asked diagrams image written v truths = asked_of diagrams.store.nodes written (slice_get image.conditions v) truths
 
 -- the signal was written wherever the guard is true
-abbrev pub IsWrittenWhere : {S : Type 0} → List Node → HashMap ℕ Ref S → Ref → SigId → Type 0
+abbrev pub IsWrittenWhere : List Node → BTreeMap ℕ Ref → Ref → SigId → Type 0
 IsWrittenWhere nodes written guard x = (truths : List Bool) → test nodes guard truths ≡ true → is_written nodes written x.0 truths ≡ true
 
 -- each diagram of the table is one of the conditions alone
-abbrev pub AreOf : {S : Type 0} → Diagrams → HashMap ℕ Ref S → Type 0
-AreOf diagrams written = (x : ℕ) → IfSome (get nat_eq written x) (IsOf diagrams)
+abbrev pub AreOf : Diagrams → BTreeMap ℕ Ref → Type 0
+AreOf diagrams written = (x : ℕ) → IfSome (get nat_cmp written x) (IsOf diagrams)
 
 -- diagrams over the conditions of an image, with such a table
-pub record IsScene {S : Type 0} (diagrams : Diagrams) (image : ImageView) (written : HashMap ℕ Ref S) : Type 0 where
+pub record IsScene (diagrams : Diagrams) (image : ImageView) (written : BTreeMap ℕ Ref) : Type 0 where
   pub right : AreDiagrams diagrams
   pub conditions : diagrams.conditions ≡ length image.conditions
   pub of : AreOf diagrams written
@@ -63,19 +63,19 @@ pub record IsTold (exact : Bool) (diagrams : Diagrams) (image : ImageView) (befo
   pub sure : (truths : List Bool) → test diagrams.store.nodes told.written truths ≡ true → all_asked before (guard_at image n) truths ≡ true
   pub all : exact ≡ true → (truths : List Bool) → all_asked before (guard_at image n) truths ≡ true → test diagrams.store.nodes told.written truths ≡ true
 
-abbrev pub AreTold : {S : Type 0} → Bool → Diagrams → ImageView → (ℕ → List Bool → Bool) → HashMap ℕ Told S → Type 0
-AreTold exact diagrams image before told = (n : ℕ) → IfSome (get nat_eq told n) (IsTold exact diagrams image before n)
+abbrev pub AreTold : Bool → Diagrams → ImageView → (ℕ → List Bool → Bool) → BTreeMap ℕ Told → Type 0
+AreTold exact diagrams image before told = (n : ℕ) → IfSome (get nat_cmp told n) (IsTold exact diagrams image before n)
 
 -- a reference to the function of a guard whose walk asks only for what was written
-pub record IsGood {S : Type 0} (diagrams : Diagrams) (image : ImageView) (written : HashMap ℕ Ref S) (n : ℕ) (r : Ref) : Type 0 where
+pub record IsGood (diagrams : Diagrams) (image : ImageView) (written : BTreeMap ℕ Ref) (n : ℕ) (r : Ref) : Type 0 where
   pub function : IsFor diagrams (value_at (guard_at image n)) r
   pub asks : (truths : List Bool) → all_asked (asked diagrams image written) (guard_at image n) truths ≡ true
 
-abbrev pub AreGood : {S T : Type 0} → Diagrams → ImageView → HashMap ℕ Ref S → HashMap ℕ Ref T → Type 0
-AreGood diagrams image written guards = (n : ℕ) → IfSome (get nat_eq guards n) (IsGood diagrams image written n)
+abbrev pub AreGood : Diagrams → ImageView → BTreeMap ℕ Ref → BTreeMap ℕ Ref → Type 0
+AreGood diagrams image written guards = (n : ℕ) → IfSome (get nat_cmp guards n) (IsGood diagrams image written n)
 
 -- a reference to the function of such a guard, or none for another guard
-abbrev pub IsGuard : {S : Type 0} → Diagrams → ImageView → HashMap ℕ Ref S → ℕ → Option Ref → Type 0
+abbrev pub IsGuard : Diagrams → ImageView → BTreeMap ℕ Ref → ℕ → Option Ref → Type 0
 IsGuard diagrams image written n None = ((truths : List Bool) → all_asked (asked diagrams image written) (guard_at image n) truths ≡ true) → ⊥
 IsGuard diagrams image written n (Some r) = IsGood diagrams image written n r
 

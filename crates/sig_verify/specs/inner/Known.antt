@@ -1,6 +1,6 @@
 -- What is known behind the first operations of an image.
 use Rattle.std.specs.Prelude.{◌≡◌, ◌≤◌, ◌*◌, ◌^◌, ◌↔◌, ◌||◌, ◌&&◌}
-use Rattle.sig_verify.specs.Prelude.{ℕ, Bool, true, false, List, length, slice_get, nat_eq, HashMap, Option, None, Some, SigId, NODES, test, Ref, DdAnswer, Budget, OutOfMemory, ImageView, Guarded, IsSoundImage, IsSoundOperation, IsWrittenBefore, guards_of}
+use Rattle.sig_verify.specs.Prelude.{ℕ, Bool, true, false, List, length, slice_get, nat_eq, BTreeMap, Option, None, Some, SigId, NODES, test, Ref, DdAnswer, Budget, OutOfMemory, ImageView, Guarded, IsSoundImage, IsSoundOperation, IsWrittenBefore, guards_of}
 use Rattle.sig_verify.specs.inner.Asking.{AreGood, AreOf, AreTold, IsScene, asked, is_written}
 use Rattle.sig_verify.specs.Verifying.{IsBeyondBound, IsFirstUnsound}
 use Rattle.sig_verify.specs.declared.diagrams.Diagrams.{Diagrams}
@@ -29,13 +29,13 @@ is_target None x = false
 is_target (Some y) x = nat_eq y.0 x
 
 -- a signal, if one is written, was written where the guard is true, beside all that was written before
-pub record IsTakenIn {S T : Type 0} (old : Diagrams) (before : HashMap ℕ Ref S) (new : Diagrams) (behind : HashMap ℕ Ref T) (target : Option SigId) (guard : Ref) : Type 0 where
+pub record IsTakenIn (old : Diagrams) (before : BTreeMap ℕ Ref) (new : Diagrams) (behind : BTreeMap ℕ Ref) (target : Option SigId) (guard : Ref) : Type 0 where
   pub of : AreOf new behind
   pub written : (x : ℕ) (truths : List Bool)
       → is_written new.store.nodes behind x truths ≡ (is_written old.store.nodes before x truths || (is_target target x && test old.store.nodes guard truths))
 
 -- the signal was not written where the guard is true
-abbrev pub IsFree : {S : Type 0} → Diagrams → HashMap ℕ Ref S → SigId → Ref → Type 0
+abbrev pub IsFree : Diagrams → BTreeMap ℕ Ref → SigId → Ref → Type 0
 IsFree diagrams written y guard = (truths : List Bool) → is_written diagrams.store.nodes written y.0 truths ≡ true → test diagrams.store.nodes guard truths ≡ true → ⊥
 
 -- no operation is unsound, or this one is the first

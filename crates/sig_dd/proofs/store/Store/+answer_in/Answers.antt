@@ -65,8 +65,8 @@ keep-requires-clause-answer t c =
 
 pub keep-requires-clause-table : goal.keep-requires-clause-table
 keep-requires-clause-table t c =
-    let table = IsTable-append c.answer_in-2.new.self.nodes _ _ c.answer_in-2.new.table c.in_ok-high.ensures.table in
-    subst (λ ns. IsTable eq-value.it ns c.answer_in-2.new.table) (sym c.in_ok-r.ensures.kept.nodes) table
+    let table = IsTable-append c.answer_in-2.new.self.nodes _ _ c.answer_in-2.new.table.others c.in_ok-high.ensures.table in
+    subst (λ ns. IsTable eq-value.it ns c.answer_in-2.new.table.others) (sym c.in_ok-r.ensures.kept.nodes) table
 
 pub returns-in_err-keep-clause-added : goal.returns-in_err-keep-clause-added
 returns-in_err-keep-clause-added t c vs only =
@@ -78,7 +78,7 @@ returns-in_err-keep-clause-added t c vs only =
 
 pub returns-in_err-keep-clause-table : goal.returns-in_err-keep-clause-table
 returns-in_err-keep-clause-table t c =
-    subst (λ (s : StoreView). IsTable eq-value.it s.nodes c.keep.new.table) (sym c.keep.ensures.same) c.keep.ensures.table
+    subst (λ (s : StoreView). IsTable eq-value.it s.nodes c.keep.new.table.others) (sym c.keep.ensures.same) c.keep.ensures.table
 
 pub returns-clause-added : goal.returns-clause-added
 returns-clause-added t c vs only =
@@ -90,7 +90,7 @@ returns-clause-added t c vs only =
 
 pub returns-clause-table : goal.returns-clause-table
 returns-clause-table t c =
-    subst (λ (s : StoreView). IsTable eq-value.it s.nodes c.keep.new.table) (sym c.keep.ensures.same) c.keep.ensures.table
+    subst (λ (s : StoreView). IsTable eq-value.it s.nodes c.keep.new.table.others) (sym c.keep.ensures.same) c.keep.ensures.table
 
 pub returns-clause-value : goal.returns-clause-value
 returns-clause-value t c =

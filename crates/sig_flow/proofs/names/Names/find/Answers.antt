@@ -1,4 +1,4 @@
-use Rattle.sig_flow.proofs.{◌≡◌, ◌∙◌, ℕ, List, None, Option, Some, sym, subst, length, bytes_eq, kind_named, ArePlaces, IsInput, Signal, place_input, place_none, IfNone, IfSome, get_by}
+use Rattle.sig_flow.proofs.{◌≡◌, ◌∙◌, ℕ, List, None, Option, Some, sym, subst, length, kind_named, ArePlaces, IsInput, Signal, place_input, place_none, IfNone, IfSome, get_by, nat_cmp, slice_cmp}
 use Rattle.sig_flow.proofs.names.Names.find.Goals as goal
 
 found : (inputs : List Signal) (place : List ℕ → Option ℕ) → ArePlaces inputs (length inputs) place → (q : List ℕ) (o : Option ℕ) → o ≡ place q → IfSome o (IsInput inputs q)
@@ -12,9 +12,9 @@ absent inputs place places q (Some i) is = tt
 pub returns-clause-found : goal.returns-clause-found
 returns-clause-found c =
     subst (λ (inputs : List Signal). IfSome c.copied.result (IsInput inputs c.args.name.now)) c.self.view_is
-    (found c.self.inside.inputs.now (λ (q : List ℕ). get_by (λ k. bytes_eq q k.now) c.self.inside.places) c.self.invariant c.args.name.now c.copied.result (c.copied.ensures ∙ c.get.ensures.value))
+    (found c.self.inside.inputs.now (λ (q : List ℕ). get_by (λ k. slice_cmp nat_cmp q k.now) c.self.inside.places) c.self.invariant c.args.name.now c.copied.result (c.copied.ensures ∙ c.get.ensures.value))
 
 pub returns-clause-absent : goal.returns-clause-absent
 returns-clause-absent c =
     subst (λ (inputs : List Signal). IfNone c.copied.result (kind_named inputs c.args.name.now ≡ None)) c.self.view_is
-    (absent c.self.inside.inputs.now (λ (q : List ℕ). get_by (λ k. bytes_eq q k.now) c.self.inside.places) c.self.invariant c.args.name.now c.copied.result (c.copied.ensures ∙ c.get.ensures.value))
+    (absent c.self.inside.inputs.now (λ (q : List ℕ). get_by (λ k. slice_cmp nat_cmp q k.now) c.self.inside.places) c.self.invariant c.args.name.now c.copied.result (c.copied.ensures ∙ c.get.ensures.value))

@@ -1,4 +1,4 @@
-use Rattle.sig_scope.proofs.{◌≡◌, ◌++◌, ◌∷◌, [], ◌∙◌, ap, sym, subst, arith, ℕ, List, length, map, Bor, Contains, true, false, map-append, length-map, hash_map_updates_str, places_again, places_new}
+use Rattle.sig_scope.proofs.{◌≡◌, ◌++◌, ◌∷◌, [], ◌∙◌, ap, sym, subst, arith, ℕ, List, length, map, Bor, Contains, true, false, map-append, length-map, btree_map_updates_str, places_again, places_new}
 use Rattle.sig_scope.proofs.texts.Texts.add.Goals as goal
 
 abbrev bytes : List (Bor (List ℕ)) → List (List ℕ)
@@ -6,7 +6,7 @@ bytes xs = map (λ (t : Bor (List ℕ)). t.now) xs
 
 pub invariant_of-self-in_default : goal.invariant_of-self-in_default
 invariant_of-self-in_default c = λ q.
-    let put = hash_map_updates_str c.args.text.now c.self.inside.places c.insert.new.self _ c.in_default.ensures.updates q in
+    let put = btree_map_updates_str c.args.text.now c.self.inside.places c.insert.new.self _ c.in_default.ensures.updates q in
     let seen : c.args.self.now ≡ bytes c.self.inside.texts.items = cc in
     let apart : c.has-before.result ≡ false = grind arith in
     let none : Contains c.args.self.now c.args.text.now → ⊥ = λ h. (let t : c.has-before.result ≡ true = c.has-before.ensures.1 h in absurd cc) in

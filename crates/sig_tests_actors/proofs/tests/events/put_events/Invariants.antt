@@ -1,4 +1,4 @@
-use Rattle.sig_core.specs.Cores.{IsCore, IsReached}
+use Rattle.sig_interleaving.specs.Cores.{IsCore, IsReached}
 use Rattle.sig_tests_actors.proofs.tests.events.put_events.Given as goal
 
 -- the core goes on being one that was reached

@@ -1,4 +1,4 @@
-use Rattle.sig_core.proofs.UsedLinks.{may_use}
+use Rattle.sig_interleaving.proofs.UsedLinks.{may_use}
 use Rattle.sig_tests_actors.proofs.tests.steps.stepped.Goals as goal
 
 -- the ends are of all links of the plan

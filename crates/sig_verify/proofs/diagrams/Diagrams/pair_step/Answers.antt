@@ -1,4 +1,4 @@
-use Rattle.sig_verify.proofs.{◌≡◌, Bool, Option, None, Some, true, false, inl, inr, refl, sym, ◌∙◌, is_some, eqb-false, ref_same, Node, constant_by, itself_by, split_by}
+use Rattle.sig_verify.proofs.{◌≡◌, Option, None, Some, false, inl, inr, refl, sym, ◌∙◌, is_some, eqb-false, ref_same, Node, constant_by, itself_by, split_by}
 use Rattle.sig_verify.proofs.diagrams.Diagrams.pair_step.Goals as goal
 
 none_of : (o : Option Node) → is_some o ≡ false → None ≡ o

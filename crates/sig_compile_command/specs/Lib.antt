@@ -1,0 +1,4 @@
+pub mod Prelude
+pub mod Compiling
+pub mod Complete
+pub mod Printing

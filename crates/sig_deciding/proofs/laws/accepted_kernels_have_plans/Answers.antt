@@ -1,5 +1,0 @@
-use Rattle.sig_deciding.proofs.{some_plan}
-use Rattle.sig_deciding.proofs.laws.accepted_kernels_have_plans.Goals as goal
-
-pub returns : goal.returns
-returns c = some_plan

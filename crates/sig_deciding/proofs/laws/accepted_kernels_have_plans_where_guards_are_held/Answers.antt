@@ -1,5 +1,0 @@
-use Rattle.sig_deciding.proofs.{plan_exists}
-use Rattle.sig_deciding.proofs.laws.accepted_kernels_have_plans_where_guards_are_held.Goals as goal
-
-pub returns : goal.returns
-returns c = plan_exists

@@ -1,5 +1,0 @@
-use Rattle.sig_doing.proofs.{guard_known}
-use Rattle.sig_doing.proofs.laws.guards_are_known.Goals as goal
-
-pub returns : goal.returns
-returns c = guard_known

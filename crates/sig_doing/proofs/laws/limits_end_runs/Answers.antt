@@ -1,5 +1,0 @@
-use Rattle.sig_doing.proofs.{limit_end}
-use Rattle.sig_doing.proofs.laws.limits_end_runs.Goals as goal
-
-pub returns : goal.returns
-returns c = λ plan accepted flows fit limit trace is. limit_end plan accepted flows fit trace is limit

@@ -1,8 +1,0 @@
-use Rattle.sig_images.proofs.{subst, IsImage, have_names}
-use Rattle.sig_images.proofs.build.bytes_of.Goals as goal
-
-pub image-requires : goal.image-requires
-image-requires c = record { names = have_names c.args.plan.now.kernel c.requires.names }
-
-pub returns-in-Ok-write_image-clause-right : goal.returns-in-Ok-write_image-clause-right
-returns-in-Ok-write_image-clause-right c = subst IsImage c.in-Ok.ensures.image c.in-Ok.ensures.right

@@ -1,8 +1,0 @@
-use Rattle.sig_images.proofs.{is_built, only_build}
-use Rattle.sig_images.proofs.laws.good_builds_are_done.Goals as goal
-
-pub returns-clause-only : goal.returns-clause-only
-returns-clause-only c = only_build
-
-pub returns-clause-some : goal.returns-clause-some
-returns-clause-some c = is_built

@@ -1,0 +1,4 @@
+pub mod Prelude
+pub mod Ends
+pub mod Runs
+pub mod Complete

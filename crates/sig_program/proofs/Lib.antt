@@ -1,0 +1,16 @@
+pub mod Common
+pub mod ShownNames
+pub mod OwnNames
+pub mod Pacings
+pub mod Verdicts
+pub mod Rooms
+pub mod PlanStatuses
+pub mod SomeVerdict
+pub use Common.*
+pub use OwnNames.*
+pub use Pacings.*
+pub use PlanStatuses.*
+pub use Rooms.*
+pub use ShownNames.*
+pub use SomeVerdict.*
+pub use Verdicts.*

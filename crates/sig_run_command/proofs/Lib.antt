@@ -1,0 +1,4 @@
+pub mod Common
+mod Written
+pub use Common.*
+pub use Written.*

@@ -1,4 +1,0 @@
-pub mod Prelude
-pub mod Complete
-pub mod Ends
-pub mod Runs

@@ -1,5 +1,0 @@
-use Rattle.sig_schedules.proofs.{is_runnable}
-use Rattle.sig_schedules.proofs.laws.accepted_plans_are_runnable.Goals as goal
-
-pub returns : goal.returns
-returns c = is_runnable

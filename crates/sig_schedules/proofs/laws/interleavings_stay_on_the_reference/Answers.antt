@@ -1,5 +1,0 @@
-use Rattle.sig_schedules.proofs.{after_on}
-use Rattle.sig_schedules.proofs.laws.interleavings_stay_on_the_reference.Goals as goal
-
-pub returns : goal.returns
-returns c = after_on

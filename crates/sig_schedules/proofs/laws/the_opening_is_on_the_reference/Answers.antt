@@ -1,5 +1,0 @@
-use Rattle.sig_schedules.proofs.{opening_on}
-use Rattle.sig_schedules.proofs.laws.the_opening_is_on_the_reference.Goals as goal
-
-pub returns : goal.returns
-returns c = opening_on
