@@ -11,12 +11,14 @@ Runs `SIGC check` on families of programs:
   sums        512 signals in 64 clusters;
   parts       so many small debouncers that share nothing, with the flag `--pace`;
   inputs      so many inputs that come independently of each other, with the flag `--pace`;
-  hostile     small programs that cost much (bench/shapes.py), worst first, and `SIGC run` of flow files of many lines.
+  hostile     hostile texts, flows and images (bench/hostile_cases.py), worst first; words behind it name the beginnings of
+              those that are tried.
 
-The last is tried where it is named. Of its programs the answer, which tells the nodes where they were used up, the processor
-time and the peak memory are printed, and one is too late past 20 s. Of the others: prints of each program its signals, its answer, the least processor time of three runs, its ratio to that of `SIGC print` of
-the same program in the same run, and the peak memory, which is at least that of this script where it starts them. A family
-ends where a check takes more than 20 s. The status is 1 where a check took more than 10 times `print` and more than 50 ms.
+The last is tried where it is named: of each the answer, its bytes, the processor time and the peak memory are printed, and it
+holds within 20 s and 1 GB. Of the others: prints of each program its signals, its answer, the least processor time of three
+runs, its ratio to that of `SIGC print` of the same program in the same run, and the peak memory, which is at least that of
+this script where it starts them. A family ends where a check takes more than 20 s. The status is 1 where a hostile one does
+not hold, or where a check took more than 10 times `print` and more than 50 ms.
 """
 import os
 import re
@@ -25,7 +27,7 @@ import subprocess
 import sys
 import tempfile
 
-from shapes import SHAPES, many_inputs
+from hostile_cases import CASES, write
 
 HERE = os.path.dirname(os.path.abspath(__file__))
 # the controllers, and of each the signal whose instants are those of the process
@@ -34,8 +36,7 @@ CONTROLLERS = {
     "pump": "FRONT", "watch": "TICK", "down": "Y",
 }
 SIGNALS = 512
-SECONDS = 20
-INPUTS = 510
+SECONDS, MEGABYTES = 20, 1024
 
 
 def declared(text):
@@ -173,46 +174,37 @@ def measure(sigc, name, count, folder):
     return answer, seconds, seconds <= max(10 * base, 0.05)
 
 
-# flow files of many lines for 510 inputs: what a line is, and how many of them
-MANY_LINES = {"names": (f"A{INPUTS - 2}\n", 13_000_000), "values": (f"A{INPUTS - 2} 1\n", 3_999_999)}
+def holds(sigc, name, case, folder):
+    """Runs a hostile case and prints its line; tells whether it was in time and in room."""
+    size = write(case, folder)
+    answer, seconds, memory = timed([sigc, *case.words.split()], folder)
+    is_held = seconds <= SECONDS and memory <= 1024 * MEGABYTES
+    last = answer.split("\n")[-1] or "no answer"
+    print(f"{name}: {last}, {size} bytes, {seconds:.2f} s, {memory // 1024} MB{'' if is_held else ': TOO MUCH'}", flush=True)
+    return is_held
 
 
-def measure_hostile(sigc, title, text, words, folder):
-    """Runs one command over a program and prints its line; tells whether it was too late."""
-    with open(os.path.join(folder, "program.sig"), "w", encoding="ascii") as file:
-        file.write(text)
-    answer, seconds, memory = least([sigc, *words], folder)
-    last = answer.split("\n")[-1]
-    print(f"{title}: {last}, {len(text)} bytes, {seconds:.2f} s, {memory // 1024} MB", flush=True)
-    return seconds > SECONDS
-
-
-def hostile(sigc, folder):
-    """Measures the small programs that cost much, and flow files of many lines; tells how many were too late."""
-    late = 0
-    for name, (shape, counts) in SHAPES.items():
-        for count in counts:
-            late += measure_hostile(sigc, f"{name} {count}", shape(count), ["check", "program.sig"], folder)
-    for name, (line, count) in MANY_LINES.items():
-        with open(os.path.join(folder, "many.flows"), "w", encoding="ascii") as file:
-            file.write(line * count)
-        words = ["run", "program.sig", "many.flows", "--workers", "0"]
-        late += measure_hostile(sigc, f"{count} lines of {name}", many_inputs(INPUTS - 1), words, folder)
-    return late
+def hostile(sigc, beginnings, folder):
+    """Tries the hostile cases, or those of these beginnings; tells how many do not hold."""
+    names = [it for it in CASES if not beginnings or it.startswith(tuple(beginnings))]
+    return sum(not holds(sigc, it, CASES[it], folder) for it in names)
 
 
 def main():
     sigc, late = os.path.abspath(sys.argv[1]), 0
     with tempfile.TemporaryDirectory() as folder:
-        if "hostile" in sys.argv[2:]:
-            late += hostile(sigc, folder)
-        for name in [it for it in sys.argv[2:] if it != "hostile"] or (FAMILIES if len(sys.argv) == 2 else []):
+        named = sys.argv[2:]
+        if "hostile" in named:
+            at = named.index("hostile")
+            named, beginnings = named[:at], named[at + 1 :]
+            late += hostile(sigc, beginnings, folder)
+        for name in named or (FAMILIES if len(sys.argv) == 2 else []):
             for count in COUNTS.get(name) or growing():
                 answer, seconds, in_time = measure(sigc, name, count, folder)
                 late += not in_time
                 if answer != "accepted" or seconds > SECONDS:
                     break
-    print(f"{late} too late")
+    print(f"{late} too much")
     return 1 if late else 0
 
 

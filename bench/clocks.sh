@@ -6,7 +6,7 @@ set -eu
 here=$(cd "$(dirname "$0")" && pwd)
 work=$(mktemp -d)
 trap 'rm -rf "$work"' EXIT
-crates='sig_lists sig_base sig_text sig_lex sig_tree sig_kernel sig_dd sig_clock sig_rel sig_solve sig_plan sig_model sig_meaning sig_graph sig_part sig_code sig_back sig_parse sig_scope sig_kinds sig_recursion sig_type sig_call sig_flat sig_front sig_load'
+crates='sig_lists sig_base sig_text sig_lex sig_tree sig_kernel sig_dd sig_clock sig_rel sig_solve sig_plan sig_model sig_meaning_laws sig_graph sig_part sig_code sig_back sig_parse sig_scope sig_kinds sig_recursion sig_type sig_call sig_flat sig_front sig_load'
 for crate in $crates; do
     mkdir -p "$work/crates/$crate"
     for part in src specs proofs; do

@@ -2,8 +2,8 @@
 """hostile.py SIGC: looks for small programs whose compilation takes long, guided by time.
 
 It draws programs of some families (boolean functions of conditions on one clock as guards, circles of booleans that sample one
-another, signals that clock equations tie, nested samplings and merges, clauses that clocks have to meet, held signals) and
-changes those that took longest: names and operators are exchanged, declarations and equations change their places, equations
+another, signals that clock equations tie, nested samplings and merges, clauses that clocks have to meet, held signals, guards
+whose diagrams stay small while their pairs are many, independent inputs at paces) and changes those that took longest: names and operators are exchanged, declarations and equations change their places, equations
 are repeated or go. `SIGC check` runs on each, one at a time and at low priority, with so much processor time at most. It
 prints each program that is worse than its family's worst, and keeps the worst of each family and answer in a folder, as FAMILY-ANSWER.sig with a
 first line that tells time and memory. The draws are those of the seed.
@@ -25,6 +25,8 @@ from shapes import merged, names, on_one_clock, pairs_of, program
 NAME = re.compile(r"\b[A-Z][0-9]*\b")
 GROUPS = [["and", "or", "xor"], ["^+", "^*", "^-"]]
 MOST_BYTES = 12_000
+# the flags with which the programs of a family are checked
+FLAGS = {"paces": ["--pace"]}
 
 
 def formula(draw, leaves, size):
@@ -163,6 +165,39 @@ def merges(draw):
     return program(f"integer A; boolean {', '.join(inputs)}", lines, f"integer {names('X', count)};", f"integer {', '.join(outputs)}")
 
 
+def sums(draw):
+    """Guards that each join products of conditions at a small distance, so that a diagram stays small, over conditions of their own
+    or shared ones; and samplings that need several of them."""
+    functions, each = draw.randrange(2, 4), draw.randrange(8, 26)
+    inputs = [f"B{i}" for i in range(functions * each)]
+    lines = [on_one_clock(("B", len(inputs)))]
+    for j in range(functions):
+        own = inputs[j::functions] if draw.random() < 0.7 else inputs[: 2 * each]
+        distance, inner, outer = draw.randrange(3, 9), draw.choice(["and", "and", "or", "xor"]), draw.choice(["xor", "xor", "or"])
+        lines.append(f"F{j} := " + f" {outer} ".join(f"({a} {inner} {b})" for a, b in zip(own, own[min(distance, each - 1) :])))
+    samplings = draw.randrange(2, 6)
+    for k in range(samplings):
+        before = draw.choice(["A", *(f"Y{i}" for i in range(k))])
+        lines.append(f"Y{k} := {before} when {formula(draw, [f'F{j}' for j in range(functions)], draw.randrange(1, 3))}")
+    inputs = f"integer A; boolean {', '.join(inputs)}"
+    return program(inputs, lines, f"boolean {names('F', functions)};", f"integer {names('Y', samplings)}")
+
+
+def paces(draw):
+    """Merges of inputs that come independently of one another, samplings of them, and some clock equations."""
+    count, merges_ = draw.randrange(4, 60), draw.randrange(2, 60)
+    inputs = [f"A{i}" for i in range(count)]
+    known, lines = list(inputs), []
+    for i in range(merges_):
+        some = draw.sample(known, draw.randrange(1, min(len(known), 6) + 1))
+        lines.append(f"Y{i} := {' default '.join(some)}" + (f" when (B{i % 4} and B{(i + 1) % 4})" if draw.random() < 0.1 else ""))
+        known += [f"Y{i}"] if draw.random() < 0.5 else []
+    for _ in range(draw.randrange(0, 6)):
+        lines.append(f"{clocks(draw, inputs, draw.randrange(1, 3))} ^= {clocks(draw, inputs, draw.randrange(1, 3))}")
+    lines.append(on_one_clock(("B", 4)).removeprefix("A ^= "))
+    return program(f"integer {', '.join(inputs)}; boolean {names('B', 4)}", lines, output=f"integer {names('Y', merges_)}")
+
+
 FAMILIES = {
     "merges": merges,
     "guards": guards,
@@ -172,6 +207,8 @@ FAMILIES = {
     "clauses": clauses,
     "holding": holding,
     "products": products,
+    "sums": sums,
+    "paces": paces,
 }
 
 
@@ -238,8 +275,8 @@ def repeated(draw, head, lines, at):
     return head, lines + [f"{new} := {right}"]
 
 
-def checked(sigc, text, folder, seconds):
-    """The answer of a check, its processor seconds, and its peak memory in MB."""
+def checked(sigc, text, folder, seconds, flags=()):
+    """The answer of a check with these flags, its processor seconds, and its peak memory in MB."""
     path = os.path.join(folder, "program.sig")
     with open(path, "w", encoding="ascii") as file:
         file.write(text)
@@ -248,7 +285,7 @@ def checked(sigc, text, folder, seconds):
         os.nice(10)
         resource.setrlimit(resource.RLIMIT_CPU, (seconds, seconds + 1))
 
-    child = subprocess.Popen([sigc, "check", path], stdin=subprocess.DEVNULL, stdout=subprocess.PIPE, stderr=subprocess.STDOUT, preexec_fn=limits)
+    child = subprocess.Popen([sigc, "check", path, *flags], stdin=subprocess.DEVNULL, stdout=subprocess.PIPE, stderr=subprocess.STDOUT, preexec_fn=limits)
     out = child.stdout.read().decode("latin-1").strip().split("\n")[-1]
     _, status, usage = os.wait4(child.pid, 0)
     return out if not os.WIFSIGNALED(status) else f"signal {os.WTERMSIG(status)}", usage.ru_utime + usage.ru_stime, usage.ru_maxrss // 1024
@@ -278,7 +315,7 @@ class Search:
 
     def run(self, family, text):
         """Checks a program, and keeps it where it is worse than the worst of its kind."""
-        answer, seconds, memory = checked(self.words.sigc, text, self.folder, self.words.seconds)
+        answer, seconds, memory = checked(self.words.sigc, text, self.folder, self.words.seconds, FLAGS.get(family, ()))
         self.tried += 1
         self.keep((family, kind_of(answer)), text, answer, seconds, memory)
 
@@ -312,7 +349,7 @@ def again(sigc, kept, seconds, folder):
     for name in sorted(os.listdir(kept)):
         if name.endswith(".sig"):
             with open(os.path.join(kept, name), encoding="ascii") as file:
-                found.append((*checked(sigc, file.read(), folder, seconds), name))
+                found.append((*checked(sigc, file.read(), folder, seconds, FLAGS.get(name.split("-")[0], ())), name))
     for answer, seconds_, memory, name in sorted(found, key=lambda it: -it[1]):
         print(f"{name}: {seconds_:.2f} s, {memory} MB: {answer}")
 

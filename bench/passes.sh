@@ -8,7 +8,7 @@ set -eu
 here=$(cd "$(dirname "$0")" && pwd)
 work=$here/passes/out
 program=$work/crates/passes/out/passes
-crates='sig_lists sig_base sig_text sig_lex sig_tree sig_kernel sig_dd sig_clock sig_rel sig_solve sig_plan sig_model sig_meaning sig_graph sig_part sig_code sig_back sig_flow sig_parse sig_scope sig_kinds sig_recursion sig_type sig_call sig_flat sig_front'
+crates='sig_lists sig_base sig_text sig_lex sig_tree sig_kernel sig_dd sig_clock sig_rel sig_solve sig_plan sig_model sig_meaning_laws sig_graph sig_part sig_code sig_back sig_flow sig_parse sig_scope sig_kinds sig_recursion sig_type sig_call sig_flat sig_front'
 
 # The sources as they stand, each file with its own time, so that what is built stays where nothing changed.
 copy() {

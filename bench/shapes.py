@@ -59,6 +59,46 @@ def circle(count):
     return program("integer A", ["Y := A"] + lines, f"boolean {names('B', count)};")
 
 
+def distant_circle(count, distance=7):
+    """A circle of booleans, each sampled by its neighbour and by one at a distance."""
+    across = lambda i: f"B{(i + 1) % count} xor B{(i + distance) % count}"
+    lines = [f"B{i} := (A > {i}) when ({across(i)}) default (A > 0)" for i in range(count)]
+    return program("integer A", ["Y := A"] + lines, f"boolean {names('B', count)};")
+
+
+def drawn_circle(count, seed):
+    """A circle of booleans, each sampled by a function of some others, which is drawn."""
+    draw = random.Random(seed)
+    all_ = [f"B{i}" for i in range(count)]
+
+    def function():
+        some = draw.sample(all_, draw.randrange(2, 5))
+        return "".join(f"({it} {draw.choice(['and', 'or', 'xor'])} " for it in some[1:]) + some[0] + (len(some) - 1) * ")"
+
+    lines = [f"B{i} := (A > {i}) when {function()} default (A > 0)" for i in range(count)]
+    return program("integer A", ["Y := A"] + lines, f"boolean {', '.join(all_)};")
+
+
+def sums_of_products(count, distance, other=None):
+    """Two guards that each sum products of conditions at a distance mod 2, of which one samples what the other gives: their
+    diagrams are small, and so is that of both, but it has more pairs than a small table keeps. Each has so many conditions of
+    its own, which stand in turn; or both have the same, with another distance for the second."""
+    step, seconds = (2, 1) if other is None else (1, 0)
+    sum_ = lambda begin, distance: " xor ".join(f"B{step * i + begin} and B{step * (i + distance) + begin}" for i in range(count - distance))
+    sums = [f"F := {sum_(0, distance)}", f"G := {sum_(seconds, other or distance)}"]
+    inputs = f"integer A; boolean {names('B', step * count)}"
+    return program(inputs, [*sums, "Y := A when F", "V := Y when G", on_one_clock(("B", step * count))], "boolean F, G;", "integer Y, V")
+
+
+def paced_merges(count, seed):
+    """Merges of inputs that come independently of each other, drawn."""
+    draw = random.Random(seed)
+    inputs = [f"A{i}" for i in range(count)]
+    merge = lambda: " default ".join(draw.sample(inputs, draw.randrange(2, 6)))
+    lines = [f"Y{i} := {merge()}" for i in range(count)]
+    return program(f"integer {', '.join(inputs)}", lines, output=f"integer {names('Y', count)}")
+
+
 def merged(count):
     """All first signals of so many pairs, then all second ones."""
     return " default ".join(f"{letter}{i}" for letter in "UV" for i in range(count))
@@ -142,11 +182,11 @@ SHAPES = {
     "pair-guards": (pair_guards, [20, 18, 14]),
     "guards-last": (guards_last, [14, 12]),
     "circle": (circle, [24, 18, 14]),
-    "excluded": (excluded, [12, 10, 8]),
-    "implied": (implied, [12, 10, 8]),
+    "excluded": (excluded, [16, 14, 12, 10, 8]),
+    "implied": (implied, [16, 14, 12, 10, 8]),
     "clauses": (clauses, [60, 50, 40]),
     "copied": (copied, [60, 20]),
-    "merged-pairs": (merged_pairs, [18, 16, 14]),
+    "merged-pairs": (merged_pairs, [24, 20, 18, 16, 14]),
     "tied": (tied, [18, 16, 14]),
     "apart": (apart, [18, 16, 14]),
     "held": (held, [16, 13]),

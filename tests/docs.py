@@ -1,24 +1,27 @@
 #!/usr/bin/env python3
 """Runs every example of the documents, and compares what it prints with what the document says.
 
-In a document (README.md, docs/*.md, examples/README.md, tools/README.md)
+In a document (README.md, docs/*.md, examples/README.md, tools/README.md, ..)
 
-  - a fence ```signal NAME, ```text NAME, .. with a file name puts a file of that name into the document's
-    own folder; a later fence of the same name stands in its place;
+  - a fence ```signal NAME, ```text NAME, .. with a file name puts a file of that name into the folder where the
+    commands run; a later fence of the same name stands in its place. Where a committed file of that name stands
+    there, the fence has to be its text;
+  - a line `> error 1:2: ..` behind a ```signal fence is what `sigc check` has to say of its program;
+  - a fence ```diff NAME changes that file, line by line: `- ` in front of a line that goes, `+ ` of one that comes, two
+    blanks of one that stays; behind it `sigc check NAME` has to say `accepted`;
   - a fence ```console holds commands, each a line that begins with `$ `, and behind each what it prints:
     standard output, then standard error. A last line `(status N)` tells the status; without it, sigc's own
-    status has to fit the line that it says. Where the fence begins with `# to come`, the command may also be
-    refused as one that is not built yet; where it begins with `# needs gcc`, or another program, it is skipped,
-    with a line, where there is no such program;
+    status has to fit the line that it says. Where the fence begins with `# needs gcc`, or another program, it is
+    skipped, with a line, where there is no such program;
   - in a table with the columns Command, Standard output, Standard error and Status each row is such a command.
 
-Commands run in the document's folder, in which `examples` and `tools` are those of the repository, and `sigc` is
-the program. A ```signal fence without a name, or one that no command of its document names, is a failure, and so is
-a link between the pages that leads nowhere, a program of examples/ that its README does not run, or a test or table that the page of
-sig_tests_tool names and that is not there. The last line is `N passed, M failed`.
+Commands run in order, at the top of a copy of what is committed, in which the program stands as a build leaves it; `sigc`
+is it too. A command that begins with `cd` or `export` holds for all behind it. What a document's commands make of
+committed files has to be what these are. A ```signal fence without a name, or one that no command of its document names,
+is a failure, and so is all that tests/pages.py finds. The last line is `N passed, M failed`.
 """
 import argparse
-import glob
+import filecmp
 import os
 import re
 import shutil
@@ -26,17 +29,25 @@ import subprocess
 import sys
 import tempfile
 
+sys.dont_write_bytecode = True
+sys.path.insert(0, os.path.dirname(os.path.realpath(__file__)))
+import pages
+
 TOP = os.path.dirname(os.path.dirname(os.path.realpath(__file__)))
 SECONDS = 120
-NOT_BUILT = re.compile(r"error: these words are not a command\n")
 COLUMNS = ["Command", "Standard output", "Standard error", "Status"]
 
 
-def documents():
-    """The documents whose examples are run, by their names below the top."""
-    found = ["README.md", "examples/README.md", "tools/README.md", "bench/README.md"]
-    found += sorted(os.path.relpath(it, TOP) for it in glob.glob(f"{TOP}/docs/*.md"))
-    return [it for it in found if os.path.isfile(f"{TOP}/{it}")]
+def committed():
+    """The files that git tracks, by their names below the top; where there is no git, all but what was built."""
+    try:
+        listed = subprocess.run(["git", "-C", TOP, "ls-files", "-z"], capture_output=True).stdout.decode("utf-8").split("\0")
+    except OSError:
+        listed = []
+    if not any(listed):
+        listed = [os.path.relpath(f"{at}/{it}", TOP) for at, _, files in os.walk(TOP) for it in files]
+        listed = [it for it in listed if not {".git", "out", "__pycache__"} & set(it.split("/"))]
+    return [it for it in listed if it and os.path.isfile(f"{TOP}/{it}")]
 
 
 def default_program():
@@ -60,6 +71,8 @@ def blocks_of(text):
                 inside.append(lines[at].removeprefix(indent))
                 at += 1
             yield begun, (words or [""])[0], (words[1:] or [None])[0], inside
+        elif lines[at].startswith("> error"):
+            yield at + 1, "said", None, lines[at][2:]
         elif cells_of(lines[at]) == COLUMNS:
             at += 2
             while at < len(lines) and lines[at].startswith("|"):
@@ -89,6 +102,19 @@ def commands_of(lines):
     return [(at, command, "".join(f"{it}\n" for it in said), status) for at, command, said, status in found]
 
 
+def hunks_of(lines):
+    """What a fence of changes exchanges: pairs of lines, those that stay in both."""
+    found, is_new = [([], [])], False
+    for line in lines:
+        if is_new and not line.startswith("+ "):
+            found.append(([], []))
+        is_new = line.startswith("+ ")
+        for side, mark in zip(found[-1], "-+"):
+            if line.startswith((mark, " ")):
+                side.append(line[2:])
+    return found
+
+
 def status_fits(said, status):
     """Whether sigc's status is one that its last line may have."""
     last = said.splitlines()[-1] if said else ""
@@ -98,46 +124,56 @@ def status_fits(said, status):
 
 
 class Documents:
-    """The count of what passed and failed, over one program."""
+    """The count of what passed and failed, over one program, in a copy of what is committed."""
 
     def __init__(self, program, room):
-        self.program, self.room = program, room
+        self.room, self.copy = room, f"{room}/copy"
         self.passed = self.failed = self.skipped = 0
-        os.makedirs(f"{room}/bin")
-        shutil.copyfile(program, f"{room}/bin/sigc")
-        os.chmod(f"{room}/bin/sigc", 0o755)
+        self.files = committed()
+        for it in self.files:
+            os.makedirs(os.path.dirname(f"{self.copy}/{it}"), exist_ok=True)
+            shutil.copy2(f"{TOP}/{it}", f"{self.copy}/{it}")
+        self.built(program)
+
+    def built(self, program):
+        """Puts the program where a build leaves it, with the stamp of one, and on the PATH."""
+        out = f"{self.copy}/crates/sigc/out"
+        os.makedirs(out, exist_ok=True)
+        os.makedirs(f"{self.room}/bin")
+        shutil.copyfile(program, f"{out}/sigc")
+        os.chmod(f"{out}/sigc", 0o755)
+        os.symlink(f"{out}/sigc", f"{self.room}/bin/sigc")
+        with open(f"{out}/built", "w", encoding="utf-8"):
+            pass
 
     def fail(self, where, why):
         self.failed += 1
         print(f"{where}: {why}")
 
-    def call(self, command, folder):
+    def call(self, command, place):
         """What a command prints, and its status."""
-        env = {**os.environ, "PATH": f"{self.room}/bin:{os.environ.get('PATH', '/usr/bin:/bin')}", "SIGC": f"{self.room}/bin/sigc"}
-        how = {"cwd": folder, "stdin": subprocess.DEVNULL, "capture_output": True, "env": env, "timeout": SECONDS}
+        env = {it: value for it, value in os.environ.items() if it not in ("SIGC", "SIGC_UNPROVED")}
+        env["PATH"] = f"{self.room}/bin:{os.environ.get('PATH', '/usr/bin:/bin')}"
+        how = {"cwd": place.top, "stdin": subprocess.DEVNULL, "capture_output": True, "env": env, "timeout": SECONDS}
         try:
-            ran = subprocess.run(["bash", "-c", command], **how)
+            ran = subprocess.run(["bash", "-c", "".join(f"{it}\n" for it in [*place.before, command])], **how)
         except subprocess.TimeoutExpired:
             return "", f"(no end after {SECONDS} seconds)\n", None
         return ran.stdout.decode("latin-1"), ran.stderr.decode("latin-1"), ran.returncode
 
-    def compare(self, where, command, wanted, status, folder, is_to_come):
+    def compare(self, where, command, wanted, status, place):
         """Runs one command, and counts whether it prints what is wanted."""
-        out, err, ended = self.call(command, folder)
+        out, err, ended = self.call(command, place)
         said = out + err
-        if is_to_come and said != wanted and NOT_BUILT.fullmatch(said):
-            self.passed += 1
-            print(f"{where}: to come: {command}")
-        elif said != wanted:
+        if said != wanted:
             self.fail(where, f"{command}\n  wanted:\n{shown(wanted)}  printed:\n{shown(said)}")
         elif status is not None and ended != status:
             self.fail(where, f"{command}: status {ended}, and not {status}")
-        elif status is None and re.match(r"sigc [^|;]*\Z", command) and not status_fits(said, ended):
+        elif status is None and re.match(r"(\./)?sigc [^|;]*\Z", command) and not status_fits(said, ended):
             self.fail(where, f"{command}: status {ended} does not fit what it says")
         else:
             self.passed += 1
-            if is_to_come:
-                print(f"{where}: runs now, so the words 'to come' may go: {command}")
+            place.behind(command)
 
     def is_skipped(self, where, lines):
         """Whether a fence needs a program that is not there; then a line says so."""
@@ -148,13 +184,13 @@ class Documents:
         print(f"{where}: skipped: {needed[1]} is not installed")
         return True
 
-    def row(self, where, cells, folder):
+    def row(self, where, cells, place):
         """Runs a row of a table of commands. A cell of words without any code is not compared."""
         words, *said, status = cells
         command = re.fullmatch(r"`(sigc .*)`", words)
         if not command:
             return self.fail(where, f"this row has no command: {words}")
-        out, err, ended = self.call(command[1], folder)
+        out, err, ended = self.call(command[1], place)
         for told, printed in zip(said, (out, err)):
             wanted = "".join(f"{it}\n" for it in re.findall(r"`([^`]*)`", told))
             if (wanted or not told) and wanted != printed:
@@ -164,107 +200,97 @@ class Documents:
         self.passed += 1
 
     def document(self, name):
-        """Runs the examples of one document, in a folder of its own."""
-        folder = f"{self.room}/{name.replace('/', '-')}"
-        os.makedirs(folder)
-        for it in ("examples", "tools"):
-            os.symlink(f"{TOP}/{it}", f"{folder}/{it}")
-        with open(f"{TOP}/{name}", encoding="utf-8") as it:
-            text = it.read()
-        unused = {}
-        for at, kind, file, lines in blocks_of(text):
+        """Runs the examples of one document."""
+        place, unused, last = Place(f"{self.room}/{name.replace('/', '-')}", self.copy), {}, ""
+        for at, kind, file, lines in blocks_of(pages.text_of(f"{TOP}/{name}")):
             where = f"{name}:{at}"
             if kind == "row":
-                self.row(where, lines, folder)
-            elif kind == "console" and self.is_skipped(where, lines):
-                unused = {it: place for it, place in unused.items() if not any(it in line for line in lines)}
+                self.row(where, lines, place)
             elif kind == "console":
-                is_to_come = bool(lines) and lines[0].startswith("# to come")
-                found = commands_of(lines)
-                if not found:
-                    self.fail(where, "no command stands here")
-                for below, command, wanted, status in found:
-                    for it in [it for it in unused if it in command]:
-                        del unused[it]
-                    self.compare(f"{name}:{at + below + 1}", command, wanted, status, folder, is_to_come)
+                self.console(name, at, lines, place, unused)
+            elif kind == "said":
+                unused.pop(last, None)
+                self.compare(where, f"sigc check {last}", f"{lines}\n", 1, place)
+            elif kind == "diff" and file:
+                unused.pop(file, None)
+                self.mend(where, file, lines, place)
             elif file:
-                if kind == "signal":
-                    if file in unused:
-                        self.fail(unused[file], f"no command names {file}")
-                    unused[file] = where
-                with open(f"{folder}/{file}", "w", encoding="utf-8") as it:
-                    it.write("".join(f"{line}\n" for line in lines))
+                last = file
+                if kind == "signal" and unused.setdefault(file, where) != where:
+                    self.fail(unused[file], f"no command names {file}")
+                self.file(where, place.path(file), "".join(f"{line}\n" for line in lines))
             elif kind == "signal":
                 self.fail(where, "this program has no name, so it is not run")
         for file, where in unused.items():
             self.fail(where, f"no command names {file}")
+        self.unchanged(name)
+
+    def console(self, name, at, lines, place, unused):
+        """Runs the commands of a fence; the programs that they name are used now."""
+        if self.is_skipped(f"{name}:{at}", lines):
+            for it in [it for it in unused if any(it in line for line in lines)]:
+                del unused[it]
+            return
+        found = commands_of(lines)
+        if not found:
+            self.fail(f"{name}:{at}", "no command stands here")
+        for below, command, wanted, status in found:
+            for it in [it for it in unused if it in command]:
+                del unused[it]
+            self.compare(f"{name}:{at + below + 1}", command, wanted, status, place)
+
+    def file(self, where, path, text):
+        """Writes a fence's file, or compares it with the committed one."""
+        real = os.path.relpath(os.path.realpath(path), os.path.realpath(self.copy))
+        if real not in self.files:
+            with open(path, "w", encoding="utf-8") as it:
+                it.write(text)
+        elif pages.text_of(path) != text:
+            self.fail(where, f"{real} has another text")
+
+    def mend(self, where, file, lines, place):
+        """Changes a file as a fence says, and asks whether it is accepted then."""
+        text = pages.text_of(place.path(file)).split("\n")
+        for old, new in hunks_of(lines):
+            at = [it for it in range(len(text)) if text[it : it + len(old)] == old]
+            if len(at) != 1:
+                return self.fail(where, f"these lines stand {len(at)} times in {file}: {old}")
+            text[at[0] : at[0] + len(old)] = new
+        with open(place.path(file), "w", encoding="utf-8") as it:
+            it.write("\n".join(text))
+        self.compare(where, f"sigc check {file}", "accepted\n", 0, place)
+
+    def unchanged(self, name):
+        """Fails for each committed file that a document's commands have changed, and puts it back."""
+        for it in self.files:
+            if not it.startswith("crates/") and not filecmp.cmp(f"{TOP}/{it}", f"{self.copy}/{it}"):
+                self.fail(name, f"its commands change {it}")
+                shutil.copy2(f"{TOP}/{it}", f"{self.copy}/{it}")
+
+
+class Place:
+    """Where the commands of a document run: a folder that has all that stands at the top of the copy, and from there on
+    what the commands before have said by `cd` and `export`."""
+
+    def __init__(self, folder, copy):
+        os.makedirs(folder)
+        for it in os.listdir(copy):
+            os.symlink(f"{copy}/{it}", f"{folder}/{it}")
+        self.top = self.folder = folder
+        self.before = []
+
+    def behind(self, command):
+        if re.match(r"(cd|export) ", command):
+            self.before.append(command)
+        if re.match(r"cd \S+\Z", command):
+            self.folder = os.path.normpath(f"{self.folder}/{command[3:]}")
+
+    def path(self, file):
+        return f"{self.folder}/{file}"
 
 
 def shown(text):
     return "".join(f"    {line}\n" for line in text.splitlines()) or "    (nothing)\n"
-
-
-def anchor(heading):
-    """The name under which a heading of a page is found."""
-    return re.sub(r"[^\w\- ]", "", heading.lower()).replace(" ", "-")
-
-
-def headings_of(path):
-    """The names of a page's headings; lines inside fences are none."""
-    with open(path, encoding="utf-8") as it:
-        text = re.sub(r"^ *```.*?^ *```$", "", it.read(), flags=re.M | re.S)
-    return {anchor(it) for it in re.findall(r"^#+ (.*)$", text, flags=re.M)}
-
-
-def broken_links():
-    """The links of the documents and of the crates' pages that lead nowhere: (page, target)."""
-    for page in [*documents(), *sorted(os.path.relpath(it, TOP) for it in glob.glob(f"{TOP}/crates/*/README.md"))]:
-        with open(f"{TOP}/{page}", encoding="utf-8") as it:
-            text = re.sub(r"^ *```.*?^ *```$", "", it.read(), flags=re.M | re.S)
-        for target in re.findall(r"\]\(([^)\s]+)\)", text):
-            file, _, name = target.partition("#")
-            path = os.path.normpath(os.path.join(TOP, os.path.dirname(page), file)) if file else f"{TOP}/{page}"
-            is_page = path.endswith(".md")
-            if "://" not in target and (not os.path.exists(path) or name and is_page and name not in headings_of(path)):
-                yield page, target
-
-
-def unnamed_examples():
-    """The programs of examples/ that no command of their README names."""
-    with open(f"{TOP}/examples/README.md", encoding="utf-8") as it:
-        text = it.read()
-    return [it for it in sorted(os.listdir(f"{TOP}/examples")) if it.endswith(".sig") and f"examples/{it}" not in text]
-
-
-def missing_tests():
-    """The tests and tables that the page of sig_tests_tool names and that are not there: (crate, MODULE::NAME)."""
-    with open(f"{TOP}/crates/sig_tests_tool/README.md", encoding="utf-8") as it:
-        rows = re.findall(r"^\| .* \| (.*) \|$", it.read(), flags=re.M)
-    for row in rows:
-        crate = "sig_tests_tool"
-        for word in re.findall(r"`(\w+(?:::\w+)?)`", row):
-            module, _, name = word.partition("::")
-            if word.startswith("sig_tests_"):
-                crate = word
-            elif name and not has_test(f"{TOP}/crates/{crate}/src/tests", module, name):
-                yield crate, word
-
-
-def has_test(folder, module, name):
-    """Whether a module has a test of this name or, where it is in capitals, a table whose rows a test calls."""
-    text = text_of(f"{folder}/{module}.rt")
-    if not name.isupper():
-        return f"#[test]\nfn {name}(" in text
-    lists = text_of(f"{folder}/tables.rt") + text_of(f"{folder}.rt")
-    return f"const {name}: &str =" in text and re.search(rf"\b{module}::{name}[,)\]]", lists) is not None
-
-
-def text_of(path):
-    """The text of a file; nothing where there is none."""
-    if not os.path.isfile(path):
-        return ""
-    with open(path, encoding="utf-8") as it:
-        return it.read()
 
 
 def main():
@@ -278,15 +304,11 @@ def main():
         return 1
     with tempfile.TemporaryDirectory(prefix="sigc-docs-") as room:
         run = Documents(program, room)
-        for name in words.only or documents():
+        for name in words.only or pages.documents():
             run.document(name)
         if not words.only:
-            for it in unnamed_examples():
-                run.fail("examples/README.md", f"no command names examples/{it}")
-            for page, target in broken_links():
-                run.fail(page, f"this link leads nowhere: {target}")
-            for crate, test in missing_tests():
-                run.fail("crates/sig_tests_tool/README.md", f"there is no test {test} in {crate}")
+            for page, why in pages.faults():
+                run.fail(page, why)
     if run.skipped:
         print(f"{run.skipped} fences skipped")
     print(f"{run.passed} passed, {run.failed} failed")

@@ -60,8 +60,8 @@ THREE = (
     'process THREE = (? ! integer N, M, K) pragmas RunOn {M} "1" RunOn {K} "2" end pragmas '
     "(| N := (N $ init 0) + 1 | M := N * 2 | K := M + N |);"
 )
-# the stack that docs/limits.md asks for, in KB
-NEEDED = 1024
+# the stack that docs/limits.md asks for, in KB, and that of a build for trials, which cannot print brackets with the third
+NEEDED, NEEDED_FOR_TRIALS, BRACKETS = 1280, 1792, 640
 COUNTED = 16_000
 EVENTS = "act 1\n" + 8 * "act 0\n" + "act 1\nact 1\nact 7\n"
 PLAYED = (
@@ -420,6 +420,32 @@ def chained(count, last="A + 0"):
     return deep("Y := Q1(A)", where=" where\n" + "\n".join(models) + "\nend", names=names)
 
 
+def chained_outputs(count, last="Y $ init 0"):
+    """The same of processes without inputs, of which each call makes one signal."""
+    models = [f"process Q{i} = (? ! integer Y) Y := Q{i + 1}();" for i in range(1, count)]
+    models.append(f"process Q{count} = (? ! integer Y) Y := {last};")
+    text = "process DEEP = (? ! integer Y)\nY := Q1() where\n" + "\n".join(models) + "\nend;\n"
+    names = " ".join(f"Q{i}#{i}.Y" for i in range(1, count + 1))
+    return {"P": text, "F": "", "T": f"Y {names}\n0{count * ' 0'}\n"}
+
+
+def deep_image(is_last_read):
+    """An image of 512 conditions, and a guard that asks for all of them; the last one is an input like the others, or is written
+    where all others are true."""
+    count = 512
+    nodes, whole_guard = [(count - 1 - k, 0, k + 1) for k in range(count)], count + 1
+    if not is_last_read:
+        nodes += [(count - 2 - k, 0, count + 1 + k if k else 1) for k in range(count - 1)]
+    inputs = count if is_last_read else count - 1
+    text = "SIGIMG01" + "".join(number(it) for it in (count, inputs, 0, count, 1, len(nodes), count + 1))
+    text += "".join("\1" + number(4) + f"B{v:03}" for v in range(count)) + "".join(number(v) for v in range(count))
+    text += "\1" + number(0) + number(0) + "".join(number(it) for node in nodes for it in node)
+    text += "".join("\0" + number(1) + number(1) + number(1) + number(v) for v in range(inputs))
+    if not is_last_read:
+        text += "\2" + number(len(nodes) + 1) + number(1) + number(1) + number(count - 1) + number(0)
+    return {"I": text + "\5" + number(whole_guard) + number(1) + number(1) + number(0) + number(0), "F": ""}
+
+
 def enclosed(count):
     """The same with each model inside the one that calls it."""
     inner = ""
@@ -440,7 +466,8 @@ def conditions(count):
     return {"P": text, "F": flows, "T": f"A Y {' '.join(names)}\n0 0{count * ' true'}\n"}
 
 
-# the deepest programs that are accepted: 64 things inside one another, 511 operators with 512 signals, 254 calls
+# the deepest programs that are accepted: 64 things inside one another, 511 operators with 512 signals, 254 calls, or 511 of
+# processes without inputs; and images of 512 conditions
 DEEP = {
     "brackets": deep(f"Y := {64 * '('}A{64 * ')'}"),
     "sums": deep(f"Y := {64 * '(A + '}A{64 * ')'}"),
@@ -460,14 +487,20 @@ DEEP = {
     "conditions": conditions(254),
     "calls": chained(254),
     "calls-and-operators": chained(254, "A" + 512 * " + A"),
+    "calls-without-inputs": chained_outputs(511),
+    "calls-without-inputs-and-operators": chained_outputs(511, f"Y $ init 0{511 * ' + 0'}"),
     "enclosed": enclosed(64),
+    "image": deep_image(True),
+    "image-of-one-written-last": deep_image(False),
 }
 COMMANDS = {
-    "print": ["print", "P"], "check": ["check", "P"], "judge": ["judge", "P", "T"],
-    "run": ["run", "P", "F", "--workers", "0"], "run-2": ["run", "P", "F", "--workers", "2", "--capacity", "7"],
+    "print": ["print", "P"], "check": ["check", "P"], "judge": ["judge", "P", "T"], "build": ["build", "P"],
+    "run": ["run", "P", "F", "--workers", "0", "--instants", "1"],
+    "run-2": ["run", "P", "F", "--workers", "2", "--capacity", "7", "--instants", "1"],
+    "exec": ["exec", "I", "F", "--instants", "1"],
 }
-# a deep program that has a kernel of too many signals
-TOO_MANY = "calls-and-operators"
+# deep programs that have a kernel of too many signals
+TOO_MANY = ("calls-and-operators", "calls-without-inputs-and-operators")
 
 
 def with_stack(kilobytes):
@@ -475,41 +508,63 @@ def with_stack(kilobytes):
 
 
 def due_of_deep(name, command, its_files):
-    """What a command is to say of a deep program; of the text that `print` writes, nothing is said here."""
+    """What a command is to say of a deep program; of the text that `print` writes and of images, nothing is said here."""
     if command == "judge":
         return "accepted\n", "", 0
-    if name == TOO_MANY:
+    if name in TOO_MANY:
         return "", "error: more than 512 signals\n", 1
-    return ("accepted\n", "", 0) if command == "check" else (f"Y {its_files['F'].split()[1]}\n", EXHAUSTED.format("A", 1), 0)
+    if "P" not in its_files:
+        return "", EXHAUSTED.format("B000", 0), 0
+    header, values = (line.split() for line in its_files["T"].splitlines())
+    line = f"Y {values[header.index('Y')]}\n"
+    return ("accepted\n", "", 0) if command == "check" else (line, "end: limit after 1 instants\n", 0)
+
+
+def rows_of_deep(faults):
+    """The deep programs and images with each command that takes them, and with what that says where there is ample stack."""
+    for name, its_files in DEEP.items():
+        built = Row(COMMANDS["build"], its_files, "", "", 0)
+        if "P" in its_files:
+            faults.put(built)
+            image_ = faults.run(built)
+            its_files = {**its_files, "I": image_.out} if not image_.status else its_files
+        for command, words in COMMANDS.items():
+            if words[1] in its_files:
+                row = Row(words, its_files, "", "", 0)
+                faults.put(row)
+                yield name, command, row, faults.run(row)
+
+
+def stack_asked(faults):
+    """The least stack that is enough, in KB, as docs/limits.md says; a build for trials needs more, for brackets too."""
+    row = Row(COMMANDS["print"], DEEP["brackets"], "", "", 0)
+    faults.put(row)
+    return NEEDED if faults.run(row, preexec_fn=with_stack(BRACKETS)).status == 0 else NEEDED_FOR_TRIALS
 
 
 def stacks(faults):
     """The deepest programs, with little stack: the answer, or, below what is asked for, the end by a signal."""
-    for name, its_files in DEEP.items():
-        for command, words in COMMANDS.items():
-            row = Row(words, its_files, "", "", 0)
-            faults.put(row)
-            out, err, status = faults.run(row)[:3] if command == "print" else due_of_deep(name, command, its_files)
-            for kilobytes in (64, 256, NEEDED, 8192):
-                dues = [(True, out, err, status)] + ([(False, out, "", -signal.SIGSEGV)] if kilobytes < NEEDED else [])
-                ran = faults.run(row, preexec_fn=with_stack(kilobytes))
-                faults.compare(f"{name}: {command} with {kilobytes} KB of stack", ran, dues)
+    asked = stack_asked(faults)
+    for name, command, row, ample in rows_of_deep(faults):
+        out, err, status = ample[:3] if command in ("print", "build") else due_of_deep(name, command, row.files)
+        for kilobytes in (64, 256, asked, 8192):
+            dues = [(True, out, err, status)] + ([(False, out, "", -signal.SIGSEGV)] if kilobytes < asked else [])
+            ran = faults.run(row, preexec_fn=with_stack(kilobytes))
+            faults.compare(f"{name}: {command} with {kilobytes} KB of stack", ran, dues)
 
 
 def least_stacks(faults):
     """Prints the least stack with which each deep program has its answer, by command, in KB."""
-    for name, its_files in DEEP.items():
-        found = {}
-        for command, words in COMMANDS.items():
-            row = Row(words, its_files, "", "", 0)
-            faults.put(row)
-            ample, low, high = faults.run(row), 16, 8192
-            while high - low > max(4, low // 32):
-                middle = (low + high) // 2
-                is_enough = faults.run(row, preexec_fn=with_stack(middle))[:3] == ample[:3]
-                low, high = (low, middle) if is_enough else (middle, high)
-            found[command] = f"{high}" if ample.status == 0 else f"status {ample.status} {ample.err.strip()}"
-        print(f"{name}: " + ", ".join(f"{command} {it}" for command, it in found.items()), flush=True)
+    found = {}
+    for name, command, row, ample in rows_of_deep(faults):
+        low, high = 16, 8192
+        while high - low > max(4, low // 32):
+            middle = (low + high) // 2
+            is_enough = faults.run(row, preexec_fn=with_stack(middle))[:3] == ample[:3]
+            low, high = (low, middle) if is_enough else (middle, high)
+        found.setdefault(name, []).append(f"{command} {high}" + (f" ({ample.err.strip()})" if ample.status else ""))
+    for name, them in found.items():
+        print(f"{name}: " + ", ".join(them), flush=True)
 
 
 def long_image():

@@ -35,6 +35,12 @@ def program():
     return os.environ.get("SIGC") or f"{TOP}/sigc"
 
 
+def ensured():
+    """Refused, with the line of ./sigc, where it has no program to run."""
+    if not os.environ.get("SIGC"):
+        output_of("--which")
+
+
 class Call:
     """One run of sigc, whose standard output is read while it runs."""
 
@@ -172,7 +178,7 @@ def started(name, main):
         status = main()
         sys.stdout.flush()
     except Refused as refusal:
-        print(refusal.line if refusal.line.startswith(("error", "end:")) else f"{name}: {refusal.line}", file=sys.stderr)
+        print(refusal.line if refusal.line.startswith(("error", "end:")) else f"{name}: {refusal.line.removeprefix('sigc: ')}", file=sys.stderr)
         status = refusal.status
     except sigclib.Unreadable as error:
         print(f"{name}: {error}", file=sys.stderr)

@@ -6,7 +6,9 @@ signal open, as an input; a signal that no equation names any more goes too.
 import re
 from typing import NamedTuple
 
-from sigclib import RESERVED
+from sigcguilty import candidates
+from sigcleast import least
+from sigclib import RESERVED, words_of
 
 SUBJECTS = [
     ("dead", re.compile(r"no reaction is possible")),
@@ -203,22 +205,6 @@ def same(one, other):
     return one is not None and one.sort == other.sort and tuple(map(plain, one.names)) == tuple(map(plain, other.names))
 
 
-def least(count, holds):
-    """A least part of 0 .. count-1 of which `holds` is true, as it is of the whole: none of it can be left out."""
-    kept, size = list(range(count)), max(1, count // 2)
-    while size:
-        at, dropped = 0, False
-        while at < len(kept):
-            tried = kept[:at] + kept[at + size :]
-            if holds(tried):
-                kept, dropped = tried, True
-            else:
-                at += size
-        if size > 1 or not dropped:
-            size //= 2
-    return kept
-
-
 class Cause(NamedTuple):
     """A refusal of clocks, the expanded program, and the least equations that keep it."""
 
@@ -230,18 +216,37 @@ class Cause(NamedTuple):
         return [self.expanded.equations[it] for it in self.kept]
 
 
-def cause_of(sigc, processes, told):
-    """The least equations of a program that sigc refuses in this way."""
+class Late(Exception):
+    """The limit of a search is reached."""
+
+
+def cause_of(sigc, processes, told, limit=None):
+    """The least equations of a program that sigc refuses in this way; Late where the limit comes first."""
     expanded = Expanded(processes)
     named = [it for it in told.names if it in expanded.order]
     whole = list(range(len(expanded.equations)))
-    wanted = told if same(expanded.told(sigc, whole, named), told) else None
-    if wanted is None:
+
+    def holds(kept):
+        if limit and limit.is_over(sigc):
+            raise Late
+        if told.sort == "dead" and not kept:
+            return False
+        return same(expanded.told(sigc, kept, named), told)
+
+    if not holds(whole):
         return Cause(told, expanded, whole)
-    return Cause(told, expanded, least(len(whole), lambda kept: same(expanded.told(sigc, kept, named), wanted)))
+    begin = next((it for it in candidates(expanded, told) if holds(it)), whole)
+    return Cause(told, expanded, [begin[it] for it in least(len(begin), lambda kept: holds([begin[it] for it in kept]))])
 
 
 def called_by(flat):
     """Where an equation stands, in words: the calls around it."""
     return ", ".join(f"in {name}, called at {line}:{col}" for name, line, col in flat.calls)
 
+
+def told_words(flat):
+    """An expanded equation in words, with the calls around it."""
+    words = f"{called_by(flat)}: " if flat.calls else ""
+    if flat.source.form == "call":
+        words += f"of the call of {flat.source.called.text}: "
+    return words + words_of([it.text for it in flat.words])

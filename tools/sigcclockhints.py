@@ -1,16 +1,20 @@
 """What most likely is wrong where sigc refuses clocks: the beginners' mistakes of docs/errors.md, as far as the text shows them."""
-import re
-
 from sigccause import told_of
-from sigcedit import Edit
+from sigcedit import Edit, with_equation
 from sigckinds import kind_of, kinds_of
 from sigclint import is_used
 from sigcloops import above, definitions, untied
 from sigcmend import narrowed_operands, written_twice
+from sigcnear import Hint
 from sigcread import source_of, walk, words_in
 from sigcties import are_merged, is_asked, unasked
 
 MARKS = {"or": "^+", "and": "^*"}
+
+
+def said_by(reader, process, words, equation):
+    """What a clock equation of a signal that is made of its own past says, with this one as an example."""
+    return [words], "a-counter-without-a-clock", with_equation(reader.text, process, equation), equation
 
 
 def nodes_of(process):
@@ -44,7 +48,7 @@ def sampled(reader, names):
         for node, _ in nodes_of(process):
             if node.op == "when" and {it.at.text for it in node.parts if it.op == "name"} == set(names):
                 one, other = names
-                return [f"`when` does not tie its sides: say how {one} and {other} relate, as {one} ^= {other}"], "a-when-b-of-two-inputs", []
+                return [f"`when` does not tie its sides: say how {one} and {other} relate"], "a-when-b-of-two-inputs", []
     return None
 
 
@@ -55,7 +59,8 @@ def in_called(reader, process):
         found = untied(it) if it.name.text in called and it.inputs else []
         if found:
             name, other = found[0].name, it.inputs[0].name.text
-            return [f"{name} of {it.name.text} is made of its own past: say there when it comes, as {name} ^= {other}"], "a-counter-without-a-clock", []
+            words = f"{name} of {it.name.text} is made of its own past: say there when it comes"
+            return said_by(reader, it, words, f"{name} ^= {other}")
     return None
 
 
@@ -65,11 +70,11 @@ def of_the_past(reader, process, name, other):
     if not found:
         return in_called(reader, process)
     if any(name in it.names for it in found):
-        return [f"{name} is made of its own past: say when it comes, as {name} ^= {other}"], "a-counter-without-a-clock", []
+        return said_by(reader, process, f"{name} is made of its own past: say when it comes", f"{name} ^= {other}")
     loops, inside = [it.name for it in found], set().union(*(it.names for it in found))
     pace = next((it for loop in found for it in loop.others if it not in inside and process.declaration(it)), other)
     words = f"{loops[0]} is made of its own past" if len(loops) == 1 else f"{', '.join(loops[:-1])} and {loops[-1]} are made of their own past"
-    return [f"{words}: say when {'it comes' if len(loops) == 1 else 'they come'}, as {' ^= '.join([*loops, pace])}"], "a-counter-without-a-clock", []
+    return said_by(reader, process, f"{words}: say when {'it comes' if len(loops) == 1 else 'they come'}", " ^= ".join([*loops, pace]))
 
 
 def of_roots(reader, names):
@@ -85,15 +90,16 @@ def of_roots(reader, names):
     for it in declared:
         if it and it.role == "input" and it.kind == "event" and is_asked(first, it.name.text):
             return asked_event(it.name.text)
-    return told_by_another(first, declared[::-1]) or sampled(reader, names) or of_inputs(declared, names)
+    return told_by_another(reader, first, declared[::-1]) or sampled(reader, names) or of_inputs(declared, names)
 
 
-def told_by_another(process, declared):
+def told_by_another(reader, process, declared):
     """A boolean input that nothing asks, where an input has no clock: it was to tell when that one comes."""
     for teller in unasked(process):
         for it in declared:
             if it and it.role == "input" and it is not teller and not is_tied(process, it.name.text):
-                return [f"nothing asks the boolean {teller.name.text}: is `{it.name.text} ^= when {teller.name.text}` meant?"], "", []
+                equation = f"{it.name.text} ^= when {teller.name.text}"
+                return [f"nothing asks the boolean {teller.name.text}: is `{equation}` meant?"], "", with_equation(reader.text, process, equation)
     return None
 
 
@@ -105,17 +111,15 @@ def is_tied(process, name):
 def of_inputs(declared, names):
     one, other = names
     if not all(it and it.role == "input" for it in declared):
-        is_named = all(re.fullmatch(r"[A-Za-z]\w*", it) for it in names)
-        return ["a clock equation says how they relate" + (f", as `{one} ^= {other}`" if is_named else "")], "", []
-    words = f"say how they relate: `{one} ^= {other}` where they come together; where each comes by itself, two boolean inputs that come together tell which does"
-    return [words], "", []
+        return [f"a clock equation says how {one} and {other} relate"], "", []
+    return [f"say how {one} and {other} relate; where each comes by itself, two boolean inputs that come together tell which does"], "", []
 
 
 def asked_event(name):
-    return [f"an event cannot be asked whether it comes: make {name} a boolean"], "an-event-as-a-reset", []
+    return [f"{name} is an event, and cannot be asked whether it comes: only a boolean, which comes anyway, tells yes or no"], "an-event-as-a-reset", []
 
 
-def of_a_loop(process, name):
+def of_a_loop(reader, process, name):
     """Where a signal is made of one that comes at some instants of another one, by its own past."""
     found = above(process, name, untied(process))
     if not found or not found[0].others:
@@ -123,17 +127,17 @@ def of_a_loop(process, name):
     loop, right = found[0], definitions(process)[found[0].name]
     is_sampled = right.op == "when" and right.parts[-1].op == "name"
     clock = f"when {right.parts[-1].at.text}" if is_sampled else loop.others[0]
-    return [f"{loop.name} is made of its own past: say when it comes, as {loop.name} ^= {clock}"], "a-counter-without-a-clock", []
+    return said_by(reader, process, f"{loop.name} is made of its own past: say when it comes", f"{loop.name} ^= {clock}")
 
 
 def of_a_clock(reader, names):
     first = reader.processes[0]
     declared = first.declaration(names[0])
     if declared and declared.role != "input":
-        return of_a_loop(first, names[0])
+        return of_a_loop(reader, first, names[0])
     if declared is None:
         return None
-    found = told_by_another(first, [declared])
+    found = told_by_another(reader, first, [declared])
     if found:
         return found
     for node, _ in nodes_of(first):
@@ -141,30 +145,40 @@ def of_a_clock(reader, names):
             return [f"where a value is held, does {names[0]} come too? A boolean input tells it"], "two-events-or-a-value-that-is-held-between-two-ticks", []
     for it in first.inputs:
         if it is not declared and are_merged(first, declared, it):
-            words = f"where {names[0]} and {it.name.text} come by themselves, two boolean inputs that come together tell which does, as `{names[0]} ^= when {names[0]}_COMES`"
+            words = f"where {names[0]} and {it.name.text} come by themselves, two boolean inputs that come together tell which does"
             return [words], "", []
-    if declared.kind == "event":
-        return asked_event(names[0])
-    return None
+    events = [it for it in (declared, *first.inputs) if it.kind == "event" and (it is declared or is_asked(first, it.name.text))]
+    return asked_event(events[0].name.text) if events else of_a_loop(reader, first, names[0])
 
 
 def of_a_condition(reader, names):
     for process in reader.processes:
         for found in written_twice(reader.text, process):
             return [f"{source_of(reader.text, found[0][0])} is written {len(found)} times, as so many conditions: name it once"], "the-same-comparison-twice", []
-        for node, rare, other in narrowed_operands(process):
+        for node, rare, other in narrowed_operands(process, True):
             words = f"the operands of `{node.op}` at {node.at.line}:{node.at.col} are present together"
             return [f"{words}: {source_of(reader.text, other)} has to come as rarely as {source_of(reader.text, rare)}"], "a--a-when-b", []
     return None
 
 
-def clock_hint(reader, text):
-    """Lines, the entry and edits for a refusal of clocks; None where nothing is known."""
+def of_a_cycle(reader, names):
+    name = names[0]
+    words = f"{name} is needed to compute {name}" + ("; the value before is a delay, `X $ init C`" if "#" not in name else "")
+    return [words], "cycle-through-x", []
+
+
+def of_nothing(reader, names):
+    return ["the equations forbid every signal to come: one of them, or a clock equation, is one too many"], "no-reaction-is-possible", []
+
+
+def clock_hints(reader, text):
+    """The hints at a refusal of clocks: the first with its mend where one is near, and what there is to say without it."""
     told = told_of(text)
     if told is None or not reader.processes or reader.faults:
-        return None
+        return []
     found = events_among(reader, told.names) if told.sort in ("root", "clock") else None
-    if found:
-        return found
-    rules = {"root": of_roots, "clock": of_a_clock, "forced": of_a_condition}
-    return rules[told.sort](reader, told.names) if told.sort in rules else None
+    rules = {"root": of_roots, "clock": of_a_clock, "forced": of_a_condition, "cycle": of_a_cycle, "dead": of_nothing}
+    lines, entry, edits, *example = found or rules[told.sort](reader, told.names) or ([], "", [])
+    whole = [f"{lines[-1]}, as {example[0]}"] if example else lines
+    is_fact = bool(found or example) or not edits
+    return [*([Hint(whole, entry, edits)] if edits else []), *([Hint(lines, entry)] if lines and is_fact else [])]

@@ -5,18 +5,23 @@ clock is there, so that needs no words: of `A and B`, where B comes only when A 
 """
 import re
 
-import sigcread
+import sigccall
+import sigcimage
+from sigccalled import Called
 
 FALSE, TRUE = 0, 1
-AT_PLACE = re.compile(r"(?:(?P<copy>.*)\.)?#(?P<line>[0-9]+):(?P<col>[0-9]+)")
-MOST_PRODUCTS = 12
+MOST_PRODUCTS, MOST_MERGED, MOST_NAMED, MOST_STEPS = 12, 4, 3, 20_000
+
+
+class TooMany(Exception):
+    """A sum would have too many products."""
 
 
 class Diagrams:
     """Diagrams over numbered conditions, of which one stands for each function; those of an image can be taken in."""
 
     def __init__(self):
-        self.nodes, self.numbers, self.known = [None, None], {}, {}
+        self.nodes, self.numbers, self.known, self.rest = [None, None], {}, {}, MOST_STEPS
 
     def node(self, variable, low, high):
         if low == high:
@@ -62,7 +67,11 @@ class Diagrams:
         return self.choice(a, FALSE, TRUE)
 
     def products(self, least, most):
-        """A sum of few products between two diagrams, and its own diagram: lists of pairs of a variable and its truth."""
+        """A sum of few products between two diagrams, and its own diagram: lists of pairs of a variable and its truth.
+        TooMany where that takes more steps than `rest`."""
+        self.rest -= 1
+        if self.rest < 0:
+            raise TooMany
         if least == FALSE:
             return [], FALSE
         if most == TRUE:
@@ -77,10 +86,21 @@ class Diagrams:
         return found, self.either(both, self.node(variable, no, yes))
 
 
-class Clocks:
-    """The guards of an image's signals in words."""
+    def support(self, it):
+        """The variables that a diagram asks."""
+        seen, todo = set(), [it]
+        while todo:
+            at = todo.pop()
+            if at > TRUE and at not in seen:
+                seen.add(at)
+                todo += self.nodes[at][1:]
+        return sorted({self.nodes[at][0] for at in seen})
 
-    def __init__(self, image, text):
+
+class Clocks:
+    """The guards of an image's signals in words. `flat` and `observed` are as Called takes them."""
+
+    def __init__(self, image, text, flat=None, observed=None):
         self.image, self.diagrams = image, Diagrams()
         children = self.diagrams.of_image(image)
         self.guards = {}
@@ -93,21 +113,68 @@ class Clocks:
             comes = self.guards.get(signal, FALSE)
             truth = self.diagrams.node(variable, FALSE, TRUE)
             self.care = self.diagrams.both(self.care, self.diagrams.either(self.diagrams.negated(truth), comes))
-        self.names = [condition_of(image.signals[it].name, expressions_of(text)) for it in image.conditions]
-        self.numbers = {it.name: at for at, it in enumerate(image.signals)}
+        self.called = Called(text, flat, observed)
+        self.names = [self.called.name(image.signals[it].name) for it in image.conditions]
+        self.numbers = {self.called.plain.get(it.name, it.name): at for at, it in enumerate(image.signals)}
+
+    def guard(self, name):
+        """When a signal comes, as a diagram that is false where no condition can be so."""
+        return self.diagrams.both(self.guards.get(self.numbers[name], FALSE), self.care)
 
     def words(self, name):
         """When a signal comes."""
-        guard = self.guards.get(self.numbers[name], FALSE)
+        guard = self.guard(name)
         if guard == FALSE:
             return "never"
-        least = self.diagrams.both(guard, self.care)
-        found, _ = self.diagrams.products(least, self.diagrams.either(guard, self.diagrams.negated(self.care)))
+        found = self.sum(guard)
         if found == [()]:
             return "at every instant"
-        if len(found) > MOST_PRODUCTS:
-            return f"when one of {len(found)} sums of conditions holds"
-        return "when " + " or ".join(self.product(it, len(found) > 1) for it in found)
+        merged = self.merged(name, guard) if len(found) != 1 else ""
+        if not 1 <= len(found) <= MOST_PRODUCTS:
+            return merged or self.over(guard)
+        text = "when " + " or ".join(self.product(it, len(found) > 1) for it in found)
+        return f"{merged}, {text}" if merged else text
+
+    def sum(self, guard):
+        """The products of a guard; none where they are far too many."""
+        self.diagrams.rest = MOST_STEPS
+        try:
+            return self.diagrams.products(guard, self.diagrams.either(guard, self.diagrams.negated(self.care)))[0]
+        except TooMany:
+            return []
+
+    def over(self, guard):
+        """What a guard is about, where there is too much of it."""
+        names = [self.names[it] for it in self.diagrams.support(guard)]
+        more = f" and {len(names) - MOST_NAMED} more" if len(names) > MOST_NAMED else ""
+        return f"when a condition over {', '.join(names[:MOST_NAMED])}{more} holds"
+
+    def merged(self, name, guard):
+        """Signals of which one or another comes whenever a signal does: those of its own definition, if they do."""
+        own = [it.text for it in self.called.definitions.get(name, []) if it.is_signal]
+        others = [it for it in self.numbers if not it.rpartition(".")[2].startswith("#")]
+        found = self.cover(guard, own) or self.cover(guard, self.greatest(guard, others))
+        return " or else ".join(dict.fromkeys(self.called.outer.get(it, it) for it in found))
+
+    def is_below(self, one, other):
+        return one not in (FALSE, other) and self.diagrams.both(one, other) == one
+
+    def greatest(self, guard, names):
+        """Of the signals that come at some instants of a guard, one of each of the greatest clocks."""
+        guards = {}
+        for it in sorted(names, key=lambda it: "#" in it):
+            guards.setdefault(self.guard(it), it)
+        below = [it for it in guards if self.is_below(it, guard)]
+        return [guards[it] for it in below if not any(self.is_below(it, other) for other in below)]
+
+    def cover(self, guard, names):
+        """The signals that together come when the guard is true, each at some instant at which none before it does."""
+        found, sum_ = [], FALSE
+        for it in names:
+            one = self.guard(it)
+            if self.is_below(one, guard) and self.diagrams.either(sum_, one) != sum_:
+                found, sum_ = [*found, it], self.diagrams.either(sum_, one)
+        return found if sum_ == guard and len(found) <= MOST_MERGED else []
 
     def product(self, literals, is_one_of_several):
         words = [self.literal(variable, is_true, len(literals) > 1) for variable, is_true in literals]
@@ -122,20 +189,20 @@ class Clocks:
         return f"not {name}" if is_plain else f"not ({name})"
 
 
-def expressions_of(text):
-    """The expressions of a program by the places of their operators."""
-    found = {}
-    for process in sigcread.read(text).processes:
-        for equation in process.equations:
-            for node in (it for whole in equation.expressions() for it in sigcread.walk(whole)):
-                found[node.at.line, node.at.col] = sigcread.source_of(text, node)
-    return found
+def image_of(path):
+    """The image of a program's file; Refused where there is none."""
+    with sigccall.Call("build", path) as call:
+        data = call.ran.stdout.read()
+        line, status = call.ended()
+    if status:
+        raise sigccall.Refused(line, status)
+    return sigcimage.image_of(data)
 
 
-def condition_of(name, expressions):
-    """A condition as the program names it: a signal, or the expression that it is, with its copy where it is one of a call."""
-    found = AT_PLACE.fullmatch(name)
-    if not found:
-        return name
-    text = expressions.get((int(found["line"]), int(found["col"])), name)
-    return f"{found['copy']}: {text}" if found["copy"] else text
+def of_laid(laid):
+    """The clocks of a program that was laid out, by its signals as a trace names them."""
+    if not laid.paces:
+        return Clocks(image_of(laid.program.path), laid.program.text, laid.flat)
+    observed = laid.observed()
+    path = laid.files.written("paced.sig", observed.text, laid.program.path)
+    return Clocks(image_of(path), laid.program.text, laid.flat, observed)

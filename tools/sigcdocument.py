@@ -3,17 +3,17 @@
 Editors count lines from 0 and characters in units of UTF-16; sigc counts lines from 1 and columns in bytes. A document
 keeps its text a byte a character, as sigc sees it, and turns places over where they go in and out.
 """
-import sigccause
+import sigcadvice
 import sigcedit
 import sigcformat
-import sigchints
 import sigclint
-import sigcmend
-import sigcmore
 import sigcread
+import sigcstarts
+import sigcwhen
 from sigclib import RESERVED
 
-ERROR, WARNING = 1, 2
+ERROR, WARNING, INFORMATION = 1, 2, 3
+MOST_MENDS = 3
 SNIPPETS = {
     "process": "process ${1:NAME} = (? ${2:integer A} ! ${3:integer Y})\n(| ${4:Y := A}\n |);",
     "where": "where ${1:integer Z};\nend",
@@ -30,13 +30,13 @@ class Document:
     def change(self, text):
         self.text = text.encode("utf-8", "surrogatepass").decode("latin-1")
         self.reader = sigcread.read(self.text)
-        self.clocks, self.mends = None, None
+        self.clocks, self.advice = None, sigcadvice.Advice(self.sigc, self.reader)
 
     # Places.
 
     def position(self, offset):
-        begun = self.text.rfind("\n", 0, offset) + 1
-        return {"line": self.text.count("\n", 0, offset), "character": units(self.text[begun:offset])}
+        line, begun = sigcstarts.line_at(self.text, offset)
+        return {"line": line, "character": units(self.text[begun:offset])}
 
     def range(self, start, end):
         return {"start": self.position(start), "end": self.position(end)}
@@ -52,7 +52,7 @@ class Document:
 
     def range_of(self, line, col):
         """The range of the token at a place of sigc's, of one byte where none begins there."""
-        offset = sigcmore.offset_of(self.text, line, col)
+        offset = sigcedit.offset_of(self.text, line, col)
         piece = next((it for it in self.reader.pieces if it.start == offset), None)
         return self.range(offset, piece.end if piece and piece.end > offset else min(offset + 1, len(self.text)))
 
@@ -60,37 +60,31 @@ class Document:
 
     def refusals(self):
         first = self.sigc.check(self.text)
-        return [first, *sigcmore.later_refusals(self.sigc, self.reader, first)] if first else []
+        return self.advice.refusals(first) if first else []
 
     def diagnostics(self):
-        found = [self.diagnostic(it) for it in self.refusals()]
-        for it in sigclint.warnings_of(self.reader):
-            found.append({"range": self.range_of(it.line, it.col), "severity": WARNING, "source": "sigc", "message": it.text})
-        return found
+        refusals = self.refusals()
+        found = [self.diagnostic(it) for it in refusals]
+        found += [self.marked(it.line, it.col, INFORMATION, f"of `{refusal.text}`: {it.words}") for refusal in refusals for it in self.advice.notes(refusal)]
+        return found + [self.marked(it.line, it.col, WARNING, it.text) for it in sigclint.warnings_of(self.reader, not refusals)]
+
+    def marked(self, line, col, severity, message):
+        return {"range": self.range_of(line, col), "severity": severity, "source": "sigc", "message": message}
 
     def diagnostic(self, refusal):
-        hint = sigchints.hint_of(self.text, self.reader, refusal)
-        message = "\n".join([refusal.text, *hint.lines])
-        return {"range": self.range_of(refusal.line or 1, refusal.col or 1), "severity": ERROR, "source": "sigc", "message": message}
+        message = "\n".join([refusal.text, *self.advice.hint(refusal).lines])
+        related = [{"location": {"uri": self.uri, "range": self.range_of(it.line, it.col)}, "message": it.words} for it in self.advice.notes(refusal)]
+        return {**self.marked(refusal.line or 1, refusal.col or 1, ERROR, message), **({"relatedInformation": related} if related else {})}
 
     def actions(self, wanted):
-        """The mends of the refusals in a range, as code actions."""
-        found = []
+        """The mends of the refusals that stand in a range, or have a guilty line there, as code actions: each text of them once."""
+        found = {}
         for refusal in self.refusals():
-            where = self.range_of(refusal.line or 1, refusal.col or 1)
-            if wanted["end"]["line"] < where["start"]["line"] or where["end"]["line"] < wanted["start"]["line"]:
-                continue
-            hint = sigchints.hint_of(self.text, self.reader, refusal)
-            if hint.edits:
-                found.append(self.action(hint.lines[-1], hint.edits, refusal))
-            if sigccause.told_of(refusal.text):
-                found += [self.action(it.words, [sigcedit.difference(self.text, it.text)], refusal) for it in self.clock_mends()]
-        return found
-
-    def clock_mends(self):
-        if self.mends is None:
-            self.mends = sigcmend.mends_of(self.sigc, self.text, 3)
-        return self.mends
+            places = [(refusal.line or 1, refusal.col or 1), *((it.line, it.col) for it in self.advice.notes(refusal))]
+            if any(meet(wanted, self.range_of(*it)) for it in places):
+                for it in self.advice.mends(refusal, MOST_MENDS):
+                    found.setdefault(it.text, self.action(it.words, sigcedit.differences(self.text, it.text), refusal))
+        return list(found.values())
 
     def action(self, title, edits, refusal):
         changes = [{"range": self.range(it.start, it.end), "newText": shown(it.text)} for it in edits]
@@ -204,22 +198,30 @@ class Document:
             return lines
         return [*lines, *self.clock_lines(process, piece.text), self.cluster_line(process, piece.text)]
 
-    def clock_lines(self, process, name):
+    def classes(self):
+        """The classes of the signals; none where sigc refuses the program."""
         if self.clocks is None:
             self.clocks = classes_of(self.sigc.ask("tree", self.text).out)
+        return self.clocks
+
+    def images_of(self, process, name):
+        """The names of a signal in the program as it runs: of a called process one of each call."""
         if process is self.reader.processes[0]:
-            names = [name] if name in self.clocks else []
-        else:
-            names = [it for it in self.clocks if it.startswith(f"{process.name.text}#") and it.endswith(f".{name}")]
+            return [name] if name in self.classes() else []
+        return [it for it in self.classes() if it.startswith(f"{process.name.text}#") and it.endswith(f".{name}")]
+
+    def clock_lines(self, process, name):
+        names = self.images_of(process, name)
         return [self.clock_line(it) for it in names[:4]] or ["clock: not known, since sigc refuses the program"]
 
     def clock_line(self, name):
-        members, above = self.clocks[name]
+        members, above = self.classes()[name]
         others = [it for it in members if it != name]
         of = f" of {name}" if "#" in name else ""
         when = "every instant of the program"
         if above is not None:
-            when = "some of the instants of " + (" ".join(above) if above != ["-"] else "a clock of the compiler")
+            words = sigcwhen.of(self.sigc, self.text).words(name)
+            when = (f"{words}, " if words else "") + "some of the instants of " + (" ".join(above) if above != ["-"] else "a clock of the compiler")
         return f"clock{of}: {when}" + (f", with {' '.join(others[:8])}" if others else "")
 
     def cluster_line(self, process, name):
@@ -250,6 +252,11 @@ class Document:
     def symbol(self, piece, kind, detail):
         where = self.range(piece.start, piece.end)
         return {"name": piece.text, "kind": kind, "detail": detail, "range": where, "selectionRange": where}
+
+
+def meet(wanted, where):
+    """Whether two ranges have a line in common."""
+    return wanted["start"]["line"] <= where["end"]["line"] and where["start"]["line"] <= wanted["end"]["line"]
 
 
 def shown(text):

@@ -12,9 +12,9 @@ def words_with_columns(line):
     return [(it.group(), it.start() + 1) for it in re.finditer(r"[^ \t\r]+", line)]
 
 
-def hint_of_file(sort, said, text, line, col, signals, is_paced=False):
-    """Lines of words for a refusal of a file; `signals` has the kinds of those that the file may name, and `is_paced`
-    says whether --pace adds inputs."""
+def hint_of_file(sort, said, text, line, col, signals, is_paced=False, others=()):
+    """Lines of words for a refusal of a file; `signals` has the kinds of those that the file may name, `is_paced` says
+    whether --pace adds inputs, and `others` has the other names of the program, each with what it is."""
     lines = text.split("\n")
     row = lines[line - 1] if 1 <= line <= len(lines) else ""
     if row.startswith("\xef\xbb\xbf"):
@@ -24,7 +24,7 @@ def hint_of_file(sort, said, text, line, col, signals, is_paced=False):
     if said == "bad value":
         return value_hint(sort, lines, row, line, col, signals)
     if said == "not an input":
-        return input_hint(row, signals, is_paced)
+        return input_hint(row, signals, is_paced, dict(others))
     if said == "bad line":
         return bad_line(sort, row, signals)
     if said == "bad header":
@@ -32,6 +32,8 @@ def hint_of_file(sort, said, text, line, col, signals, is_paced=False):
     if said == "bad width":
         header = next((it for it in lines if it.split()), "")
         return [f"{len(row.split())} words, and the header has {len(header.split())} names; absent is `.`", *comma_hint(row)]
+    if said == "out of range":
+        return ["an integer is from -9223372036854775808 to 9223372036854775807"]
     if said == "bad event":
         return event_hint(row)
     return []
@@ -56,12 +58,16 @@ def value_hint(sort, lines, row, line, col, signals):
     kind = kind_at(sort, lines, row, line, col, signals)
     if comma_hint(word):
         return comma_hint(word)
+    if word in ("=", ":", ":=") and sort == "flow":
+        return [f"the name stands alone, without `{word}`"]
+    if word in signals and sort == "flow":
+        return ["each input has a line of its own: its name, and then its values"]
     if word == "." and sort == "flow":
         return ["a flow has the values alone, one after another: absences are left out"]
     if word in ("-", "_") and sort == "trace":
         return ["absent is written `.`"]
-    if re.fullmatch(r".+\*\d+", word) and sort == "flow":
-        return ["`v*k` stands for k values v where the first line of the file is `flows 2`"]
+    if "*" in word and sort == "flow":
+        return repeated_hint(lines)
     if kind == "boolean":
         return ["a boolean is written `true` or `false`"]
     if kind == "event":
@@ -71,8 +77,16 @@ def value_hint(sort, lines, row, line, col, signals):
     return []
 
 
-def input_hint(row, signals, is_paced):
+def repeated_hint(lines):
+    """What is wrong with a word v*k."""
+    is_second = next((it.split() for it in lines if it.split()), []) == ["flows", "2"]
+    return [f"`v*k` stands for k values v{': v is a value of the input, and k from 1 to 4000000' if is_second else ' where the first line of the file is `flows 2`'}"]
+
+
+def input_hint(row, signals, is_paced, others):
     name = (row.split() or [""])[0]
+    if name in others:
+        return [f"{name} is {'an' if others[name][0] in 'aeio' else 'a'} {others[name]}: a flow file has the inputs alone, {', '.join(signals)}"]
     if PACE.fullmatch(name):
         return ["--pace adds fewer inputs to this program, none where it has a root" if is_paced else f"{name} is an input of a program without a root that is run with --pace"]
     meant = near(name, list(signals))

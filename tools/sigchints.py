@@ -1,35 +1,56 @@
 """What most likely is wrong where sigc refuses a program: what was found and what was wanted, the word that was meant, and a mend.
 
-`hint_of` tells it for one refusal. A hint has lines of text, the entry of docs/errors.md that fits best, and where one
-is known the edits that mend the place.
+`hints_of` tells it for one refusal, the likeliest hint first. A hint has lines of text, the entry of docs/errors.md that
+fits best, and where one is known the edits that mend the place; sigctried.py tries them.
 """
-from sigcclockhints import clock_hint
-from sigcnamehints import bare_hint, call_hint, clash_hint, pragma_hint, undefined_hint, unknown_hint
+from sigcclockhints import clock_hints
+from sigcmarks import closed_comments
+from sigcnamehints import bare_hint, call_hint, clash_hints, pragma_hint, recursive_hint, undefined_hints, unknown_hints
 from sigcnear import Hint
-from sigcsyntaxhints import byte_hint, syntax_hint
+from sigcinits import no_init_hints
+from sigcsyntaxhints import byte_hints, syntax_hints
+from sigctwice import twice_hints
+
+PLAIN = {
+    "number too large": "the largest number is 9223372036854775807",
+    "nesting deeper than 64": "give the inner part a name",
+    "more than 512 operators": "give a part of the equation a name",
+    "more than 512 signals": "signals of called processes and of operators inside expressions count too",
+}
 
 
 def hint_of(text, reader, refusal):
-    """The hint for a refusal of a program."""
+    """The likeliest hint for a refusal of a program."""
+    return next(iter(hints_of(text, reader, refusal)), Hint([]))
+
+
+def hints_of(text, reader, refusal):
+    """The hints for a refusal of a program."""
     line, col, said = refusal
-    name = said.split()[-1] if said.split() else ""
     if said == "syntax":
-        return syntax_hint(text, reader, line, col)
+        return syntax_hints(text, reader, line, col)
     if said == "unexpected byte":
-        return byte_hint(text, line, col)
-    if said.startswith("unknown name "):
-        return unknown_hint(reader, line, col, name)
-    if said.endswith(" is not defined"):
-        return undefined_hint(reader, line, col, said.split()[0])
-    if said == "types clash":
-        return clash_hint(reader, line, col)
-    if said.startswith("bad call of "):
-        return call_hint(reader, line, col, name)
+        return byte_hints(text, line, col)
     if said == "comment not closed":
-        return Hint(["a comment runs from a `%` to the next `%`, over lines"])
-    if said == "bare constant":
-        return bare_hint(reader, line, col)
-    if said == "bad pragma":
-        return pragma_hint(reader, line, col)
-    clocks = clock_hint(reader, said)
-    return Hint(*clocks) if clocks else Hint([])
+        words = "a comment runs from a `%` to the next `%`, over lines"
+        return [Hint([words], "comment-not-closed", edits) for edits in (closed_comments(text), ())]
+    if said in PLAIN:
+        return [Hint([PLAIN[said]])]
+    return clock_hints(reader, said) or of_names(reader, line, col, said)
+
+
+def of_names(reader, line, col, said):
+    """The hints for a refusal of names, kinds and calls."""
+    first, last = (said.split() or [""])[0], (said.split() or [""])[-1]
+    if said.startswith("unknown name "):
+        return unknown_hints(reader, line, col, last)
+    if said.endswith((" is declared twice", " is defined twice")) or said.startswith("input "):
+        return twice_hints(reader, line, col, said)
+    if said.endswith(" is not defined"):
+        return undefined_hints(reader, line, col, first)
+    if said == "types clash":
+        return clash_hints(reader, line, col)
+    if said == "delay without init":
+        return no_init_hints(reader, line, col)
+    rules = {"bad call of": lambda *it: call_hint(*it, last), "recursive call of": recursive_hint, "bare constant": bare_hint, "bad pragma": pragma_hint}
+    return [rule(reader, line, col) for word, rule in rules.items() if said.startswith(word)]

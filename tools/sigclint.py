@@ -4,6 +4,7 @@ from typing import NamedTuple
 from sigckinds import is_integer_comparison, kinds_of
 from sigcmend import narrowed_operands, written_twice
 from sigcread import source_of, walk, words_in
+from sigcunreached import unreached_parts
 from sigcties import unasked
 
 
@@ -106,19 +107,34 @@ def decides(node, kinds, names):
     return any(is_integer_comparison(it, kinds) or it.op == "name" and it.at.text in names for it in walk(node))
 
 
+def unreached(text, processes):
+    for process in processes:
+        if not is_automaton(process):
+            yield from (at(piece, words) for piece, words in unreached_parts(text, process))
+
+
 RULES = (unused_locals, unasked_inputs, unused_processes, twice, narrowing, steered)
 
 
-def warnings_of(reader):
-    """The warnings of a program without faults, by place."""
+def warnings_of(reader, is_accepted=True):
+    """The warnings of a program without faults, by place; of one that sigc refuses those that do not ask its clocks."""
     if reader.faults or not reader.processes:
         return []
-    return sorted({it for rule in RULES for it in rule(reader.text, reader.processes)})
+    rules = (*RULES, unreached) if is_accepted else RULES
+    return sorted({it for rule in rules for it in rule(reader.text, reader.processes)})
 
 
-def empty_flows(reader, flows):
-    """The inputs that have no value in a flow file."""
-    given = {line.split()[0] for line in flows.split("\n") if len(line.split()) > 1}
-    inputs = reader.processes[0].inputs if reader.processes else []
-    empty = [it.name for it in inputs if it.name.text not in given]
-    return [at(it, f"input {it.text} has no values: the run ends where it is to come") for it in empty]
+def without_values(names, flows):
+    """Those of these inputs that have no value in a flow file."""
+    given = {words[0] for words in (line.split(None, 2) for line in flows.split("\n")) if len(words) > 1}
+    return [it for it in names if it not in given]
+
+
+def empty_flows(reader, flows, path="", paces=()):
+    """Warnings of the inputs that have no value in a flow file, those that --pace adds last."""
+    if not reader.processes:
+        return []
+    process = reader.processes[0]
+    places = {**{it.name.text: it.name for it in process.inputs}, **dict.fromkeys(paces, process.name)}
+    where = f" in {path}" if path else ""
+    return [at(places[it], f"input {it} has no values{where}: the run ends where it is to come") for it in without_values(places, flows)]

@@ -7,7 +7,8 @@ MAIN = r'''/* Runs {title} over a flow file, and writes what `sigc run` writes; 
        PROGRAM FLOWS [--instants N]
        PROGRAM --live [--instants N]          each line is an instant: a word for each input in this order, `.` where it does not come:
                                               {order}
-       PROGRAM --live=values [--instants N]   each line is a value, of the input that is asked for on standard error */
+       PROGRAM --live=values [--instants N]   each line is a value, of the input that is asked for on standard error
+       PROGRAM --help                         these words */
 #include <errno.h>
 #include <stdint.h>
 #include <stdio.h>
@@ -20,12 +21,13 @@ enum {{ INPUTS = {inputs}, MOST_BYTES = 67108864, MOST_VALUES = 4000000, PIECE =
 enum {{ INTEGER, BOOLEAN, EVENT }};
 enum {{ FROM_FILE, FROM_ROWS, FROM_VALUES }};
 
-/* An input: its name, its kind, and its values with how many were taken of how many. */
+/* An input: its name, its kind, its values with how many were taken of how many, and between which these are to be. */
 typedef struct {{
     const char *name;
     int kind;
     int64_t *values;
     size_t count, taken, room;
+    int64_t least, most;
 }} Flow;
 
 /* A piece of a text. */
@@ -488,12 +490,28 @@ static unsigned long limit_of(const char *text)
     return (unsigned long)value;
 }}
 
+/* What words there are. */
+static int tell_words(const Context *it, const char *name)
+{{
+    int i;
+    printf("%s FLOWS [--instants N]\n    runs over a flow file, and writes what `sigc run` writes\n", name);
+    printf("%s --live [--instants N]\n    each line of standard input is an instant: a word for each input, `.` where it does not come:", name);
+    for (i = 0; i < INPUTS; i++) {{
+        printf(" %s", it->flows[i].name);
+    }}
+    printf("\n%s --live=values [--instants N]\n    each line is a value, of the input that is asked for on standard error\n", name);
+    return fflush(stdout) == 0 ? 0 : 6;
+}}
+
 int main(int count, char **words)
 {{
-    static Context context = {{ .flows = {{ {flows}{{NULL, EVENT, NULL, 0, 0, 0}} }} }};
+    static Context context = {{ .flows = {{ {flows}{{NULL, EVENT, NULL, 0, 0, 0, 0, 0}} }} }};
     const char *path = NULL, *limit = NULL;
     unsigned long instants;
     int i, has_source = 0, status;
+    if (count == 2 && (strcmp(words[1], "--help") == 0 || strcmp(words[1], "-h") == 0)) {{
+        return tell_words(&context, words[0]);
+    }}
     for (i = 1; i < count; i++) {{
         int is_limit = strncmp(words[i], "--instants", 10) == 0;
         if (is_limit && limit == NULL && (words[i][10] == '=' || (words[i][10] == 0 && i + 1 < count))) {{
@@ -585,23 +603,42 @@ static inline void put_truth(Context *it, const char *name, size_t length, int v
     it->used += value ? 5 : 6;
 }}
 '''
-TAKING = r'''static int live_value(Context *it, int input, int64_t *value)
+TAKING = r'''static int is_within(const Flow *flow, int64_t value)
+{{
+    return value >= flow->least && value <= flow->most;
+}}
+
+static int live_value(Context *it, int input, int64_t *value)
 {{
     Word word = it->words[input];
     it->is_taken[input] = 1;
     if (it->wrong == NULL && (is_word(word, ".") || value_of(word, it->flows[input].kind, value) != RIGHT)) {{
         it->wrong = is_word(word, ".") ? "it comes at this instant, and the line has no value" : "this is no value of it";
         it->wrong_input = input;
+    }} else if (it->wrong == NULL && !is_within(&it->flows[input], *value)) {{
+        it->wrong = "this is outside of its range";
+        it->wrong_input = input;
     }}
     return it->wrong == NULL;
 }}
 
+/* What is wanted in the place of a line that is no value, or one outside of its range. */
+static void tell_wanted(const Flow *flow)
+{{
+    if (flow->least != INT64_MIN || flow->most != INT64_MAX) {{
+        fprintf(stderr, "an integer from %lld to %lld is wanted\n", (long long)flow->least, (long long)flow->most);
+        return;
+    }}
+    fprintf(stderr, "%s\n", flow->kind == INTEGER ? "an integer is wanted" : flow->kind == BOOLEAN ? "true or false is wanted" : "true is wanted");
+}}
+
 static int asked_value(Context *it, int input, int64_t *value)
 {{
+    const Flow *flow = &it->flows[input];
     for (;;) {{
         const char *at;
         Word word;
-        fprintf(stderr, "%s? ", it->flows[input].name);
+        fprintf(stderr, "%s? ", flow->name);
         fflush(stderr);
         if (!read_line(it)) {{
             it->is_over = 1;
@@ -609,10 +646,10 @@ static int asked_value(Context *it, int input, int64_t *value)
         }}
         at = it->line;
         word = next_word(&at, it->line + strlen(it->line));
-        if (word.length != 0 && value_of(word, it->flows[input].kind, value) == RIGHT) {{
+        if (word.length != 0 && value_of(word, flow->kind, value) == RIGHT && is_within(flow, *value)) {{
             return 1;
         }}
-        fprintf(stderr, "%s\n", it->flows[input].kind == INTEGER ? "an integer is wanted" : it->flows[input].kind == BOOLEAN ? "true or false is wanted" : "true is wanted");
+        tell_wanted(flow);
     }}
 }}
 
@@ -647,7 +684,7 @@ def main_text(unit):
         writing="".join(writing(unit.outputs())).format(), taking=TAKING.format() if inputs else "",
         writers="".join(writer(unit, it) for it in unit.outputs()),
         readers="".join(reader(unit, number, it) for number, it in enumerate(inputs)),
-        flows="".join(f"{{{quoted(it.name)}, {it.kind.upper()}, NULL, 0, 0, 0}}, " for it in inputs),
+        flows="".join(f"{{{quoted(it.name)}, {it.kind.upper()}, NULL, 0, 0, 0, {', '.join(unit.bounds_of(it) or ('INT64_MIN', 'INT64_MAX'))}}}, " for it in inputs),
     )
 
 

@@ -1,7 +1,10 @@
 """The man page of sigc, made of the documents, and the completions of its words for bash and zsh."""
 import re
+import subprocess
+import sys
+from concurrent.futures import ThreadPoolExecutor
 
-from sigcwords import COMMANDS, OPTIONS, STATUSES, usage
+from sigcwords import COMMANDS, OPTIONS, PACED, STATUSES, usage
 
 CELL = re.compile(r"(?<!\\)\|")
 
@@ -71,53 +74,103 @@ def man_page(formats):
     return head + ".SH DESCRIPTION\n" + troff(formats.partition("\n")[2].lstrip("\n")) + see
 
 
-BASH = """# Completion of sigc for bash.
+def flags_of(folder, scripts):
+    """The flags of each script of a folder, and of its commands, by what it says of its words: {(script, command): flags}."""
+    with ThreadPoolExecutor() as pool:
+        said = dict(zip(scripts, pool.map(told, ([f"{folder}/{it}"] for it in scripts))))
+        commands = [(it, command) for it, text in said.items() for command in commands_of(text)]
+        of_commands = pool.map(told, ([f"{folder}/{script}", command] for script, command in commands))
+        found = {**{(it, ""): text for it, text in said.items()}, **dict(zip(commands, of_commands))}
+    flags = {it: sorted(set(re.findall(r"(?<![\w-])--?[a-z][a-z-]*", text)) - {"-h"} | {"--help"}) for it, text in found.items()}
+    return {**flags, ("sigc-caret", ""): ["--explain", "--help", "--lint"]}
+
+
+def commands_of(usage_text):
+    """The commands of a script that has some."""
+    found = re.search(r"\{([a-z,]+)\} \.\.\.", usage_text)
+    return found[1].split(",") if found else []
+
+
+def told(words):
+    """The usage that a script tells with --help."""
+    said = subprocess.run([sys.executable, *words, "--help"], capture_output=True, text=True, stdin=subprocess.DEVNULL).stdout
+    return said.partition("\n\n")[0]
+
+
+def all_flags(flags):
+    """The flags by the words behind which they may stand: of sigc and sigc-caret by their command, of the scripts."""
+    found = {("sigc", it): [*command.options, *(["--pace"] if it in PACED else [])] for it, command in COMMANDS.items()}
+    found["sigc", ""] = ["--help"]
+    of_caret = flags.get(("sigc-caret", ""), [])
+    found.update({("sigc-caret", it): found["sigc", it] + of_caret for it in COMMANDS})
+    return {**found, **flags}
+
+
+BASH = """# Completion of sigc and its scripts for bash.
 _sigc() {
-    local word=${COMP_WORDS[COMP_CWORD]} command=${COMP_WORDS[1]}
-    if [ "$COMP_CWORD" -eq 1 ]; then
-        COMPREPLY=($(compgen -W '@COMMANDS@' -- "$word"))
-        return
-    fi
+    local word=${COMP_WORDS[COMP_CWORD]} script=${COMP_WORDS[0]##*/} command=${COMP_WORDS[1]} words=
+    case $script in
+    sigc | sigc-caret) [ "$COMP_CWORD" -eq 1 ] && words='@COMMANDS@' ;;
+    sigc-table) [ "$COMP_CWORD" -eq 1 ] && words='@TABLES@' ;;
+    esac
     case $word in
     -*)
-        local options=
-        case $command in
+        case "$script $command" in
 @CASES@
         esac
-        COMPREPLY=($(compgen -W "$options" -- "$word"))
         ;;
-    *) COMPREPLY=($(compgen -f -- "$word")) ;;
     esac
+    if [ -n "$words" ]; then
+        COMPREPLY=($(compgen -W "$words" -- "$word"))
+    else
+        COMPREPLY=($(compgen -f -- "$word"))
+    fi
 }
-complete -o filenames -F _sigc sigc sigc-caret
+complete -o filenames -F _sigc @SCRIPTS@
 """
 
-ZSH = """#compdef sigc sigc-caret
-# Completion of sigc for zsh.
+ZSH = """#compdef @SCRIPTS@
+# Completion of sigc and its scripts for zsh.
 local -a commands
 commands=(
 @DESCRIBED@
 )
-if (( CURRENT == 2 )); then
+if (( CURRENT == 2 )) && [[ $service == sigc || $service == sigc-caret ]] && [[ $words[2] != -* ]]; then
     _describe command commands
     return
 fi
-case $words[2] in
+case "$service $words[2]" in
 @CASES@
 esac
 """
 ENDINGS = {"PROGRAM": "*.sig", "FLOWS": "*.flows", "EVENTS": "*.events", "TRACE": "*.trace"}
 
 
-def bash_completion():
-    cases = "\n".join(f"        {it}) options='{' '.join(command.options)}' ;;" for it, command in COMMANDS.items() if command.options)
-    return BASH.replace("@COMMANDS@", " ".join(COMMANDS)).replace("@CASES@", cases)
+def ordered(flags):
+    """The cases of a completion: those with a command before those without."""
+    return sorted(all_flags(flags).items(), key=lambda it: (not it[0][1], it[0]))
 
 
-def zsh_completion():
+def pattern(script, command):
+    return f"'{script} {command}'" if command else f"'{script} '*"
+
+
+def bash_completion(flags):
+    cases = "\n".join(f"        {pattern(*it)}) words='{' '.join(given)}' ;;" for it, given in ordered(flags))
+    tables = " ".join(command for script, command in flags if script == "sigc-table" and command)
+    text = BASH.replace("@COMMANDS@", " ".join(COMMANDS)).replace("@TABLES@", tables).replace("@CASES@", cases)
+    return text.replace("@SCRIPTS@", " ".join(named(flags)))
+
+
+def named(flags):
+    """sigc and the scripts, by name."""
+    return ["sigc", *sorted({script for script, _ in flags} - {"sigc"})]
+
+
+def zsh_completion(flags):
     described = "\n".join(f"    {quoted(f'{it}:{command.does}')}" for it, command in COMMANDS.items())
-    cases = "\n".join(f"{it}) _arguments {' '.join(zsh_words(command))} ;;" for it, command in COMMANDS.items())
-    return ZSH.replace("@DESCRIBED@", described).replace("@CASES@", cases)
+    cases = "\n".join(f"{pattern(*it)}) _arguments {' '.join(zsh_words(*it, given))} ;;" for it, given in ordered(flags))
+    return ZSH.replace("@DESCRIBED@", described).replace("@CASES@", cases).replace("@SCRIPTS@", " ".join(named(flags)))
 
 
 def quoted(text):
@@ -125,8 +178,10 @@ def quoted(text):
     return "'" + text.replace("'", "'\\''") + "'"
 
 
-def zsh_words(command):
-    """The words of _arguments for a command: its options, and each file by its ending."""
-    options = [quoted(f"{it}[{OPTIONS[it].does}]:number:") for it in command.options]
-    files = [f'_files -g "{ENDINGS[it]}"' if it in ENDINGS else "" for it in command.files]
-    return options + [quoted(f"{at}:{it.lower()}:{call}") for at, (it, call) in enumerate(zip(command.files, files), 2)]
+def zsh_words(script, command, flags):
+    """The words of _arguments: the flags, and each file, of a command of sigc by its ending."""
+    found = [quoted(f"{it}[{OPTIONS[it].does}]:number:" if it in OPTIONS and script in ("sigc", "sigc-caret") else it) for it in flags]
+    if command not in COMMANDS or script not in ("sigc", "sigc-caret"):
+        return [*found, quoted("*:file:_files")]
+    files = [(it, f'_files -g "{ENDINGS[it]}"' if it in ENDINGS else "") for it in COMMANDS[command].files]
+    return found + [quoted(f"{at}:{it.lower()}:{call}") for at, (it, call) in enumerate(files, 2)]

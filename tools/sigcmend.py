@@ -3,16 +3,20 @@
 What is tried depends on the refusal: what says when a signal comes (sigcties.py), one name for a comparison that is
 written twice, a value beside an operand that comes more rarely, a delay, a clock equation less.
 """
+import itertools
 from typing import NamedTuple
 
 from sigccause import told_of
-from sigcedit import Draft, Edit, fresh, with_equation, with_local
+from sigcchange import by_change
+from sigcedit import Draft, Edit, fresh, with_equation, with_local, without
 from sigcloops import definitions
 from sigcread import FUNCTIONS, RELATIONS, source_of, walk
+from sigcrun import limit_of
 from sigcties import clocks, roots
 
-CALLS, DEEPEST = 160, 6
-MOST_ALIKE = 8
+CALLS, SECONDS, DEEPEST = 160, 20, 6
+# How many mends are put in order: fewer of a program of so many bytes, and few behind one step.
+MOST_FOUND, MOST_OF_LONG, LONG, MOST_BEHIND = 6, 3, 6000, 2
 
 
 class Mend(NamedTuple):
@@ -22,28 +26,30 @@ class Mend(NamedTuple):
     text: str
 
 
-def is_rare(node, defined):
-    """Whether an operand is a sampled signal, by itself or by its definition."""
+def is_rare(node, defined, is_deep=False):
+    """Whether an operand is a sampled signal, by itself or by its definition; deep: or a function of one."""
     if node.op == "name":
         node = defined.get(node.at.text, node)
+    if is_deep and node.op in FUNCTIONS:
+        return any(is_rare(it, defined) for it in node.parts)
     return node.op == "when" and node.parts[0].op not in ("number", "truth")
 
 
-def narrowed_operands(process):
+def narrowed_operands(process, is_deep=False):
     """The functions whose one operand comes more rarely than the other: pairs of both operands."""
     defined = definitions(process)
     for equation in process.equations:
         for node in (it for whole in equation.expressions() for it in walk(whole)):
             if node.op in FUNCTIONS and len(node.parts) == 2:
                 for rare, other in (node.parts, reversed(node.parts)):
-                    if is_rare(rare, defined) and not is_rare(other, defined) and other.op not in ("number", "truth"):
+                    if is_rare(rare, defined, is_deep) and not is_rare(other, defined, is_deep) and other.op not in ("number", "truth"):
                         yield node, rare, other
 
 
 def narrowed(draft):
     """A value for the operand that comes more rarely, where the other one comes alone."""
     for process in draft.processes:
-        for node, rare, other in narrowed_operands(process):
+        for node, rare, other in narrowed_operands(process, True):
             value = "0" if node.op not in ("and", "or", "xor") else "false"
             beside = f"^{source_of(draft.text, other)}" if other.op == "name" else f"^({source_of(draft.text, other)})"
             old = draft.text[rare.start : rare.end]
@@ -151,17 +157,6 @@ def loosened(draft):
             yield f"without the clock equation {whole}", draft.edited([without(draft.text, process, equation)])
 
 
-def without(text, process, equation):
-    """The edit that takes an equation away, with the bar beside it."""
-    at = process.body.index(equation.pieces[0])
-    end = process.body.index(equation.pieces[-1])
-    if process.body[at - 1].text == "|":
-        return Edit(process.body[at - 2].end, equation.pieces[-1].end, "")
-    if end + 1 < len(process.body) and process.body[end + 1].text == "|":
-        return Edit(equation.pieces[0].start, process.body[end + 1].end + 1, "")
-    return Edit(equation.pieces[0].start, equation.pieces[-1].end, "(| |)" if process.body[0] is equation.pieces[0] else "")
-
-
 def delayed(draft, told):
     """A delay in the place of a signal that is needed to compute itself."""
     process, declaration = draft.owner(told.names[0])
@@ -196,27 +191,30 @@ def candidates(text, told):
         yield from merged(draft)
 
 
-def mends_of(sigc, text, most=2):
-    """Mends of a text that sigc refuses for its clocks, at most so many: those that begin in different ways first."""
+def mends_of(sigc, text, most=2, limit=None):
+    """Mends of a text that sigc refuses for its clocks, at most so many: those that leave the most to change first, and of
+    these the ones that begin in different ways."""
     refusal = sigc.check(text)
     told = told_of(refusal.text) if refusal else None
     if told is None:
         return []
-    limit, found, alike = sigc.calls + CALLS, {}, []
+    limit = limit or limit_of(sigc, CALLS, SECONDS)
+    found = []
     for it in tried(sigc, text, told, (), DEEPEST, limit):
-        if it.text not in [other.text for other in (*found.values(), *alike)]:
-            begin = it.words.split("; ")[0]
-            alike += [it] if begin in found else []
-            found.setdefault(begin, it)
-        if len(found) >= most or len(alike) >= MOST_ALIKE:
+        if it.text not in [other.text for other in found]:
+            found.append(it)
+        if len(found) >= (MOST_FOUND if len(text) < LONG else MOST_OF_LONG):
             break
-    return [*found.values(), *alike][:most]
+    found = by_change(sigc, text, found)
+    firsts = {it.words.split("; ")[0]: it for it in reversed(found)}
+    begun = [it for it in found if it in firsts.values()]
+    return [*begun, *(it for it in found if it not in begun)][:most]
 
 
 def tried(sigc, text, told, done, depth, limit):
     later = []
     for words, new in candidates(text, told):
-        if sigc.calls >= limit:
+        if limit.is_over(sigc):
             return
         refusal = sigc.check(new)
         if refusal is None:
@@ -227,4 +225,5 @@ def tried(sigc, text, told, done, depth, limit):
             later.append((words, new, other))
     if depth > 1:
         for words, new, other in later[:3]:
-            yield from tried(sigc, new, other, (*done, words), depth - (1 if other.sort == "root" else 3), limit)
+            behind = tried(sigc, new, other, (*done, words), depth - (1 if other.sort == "root" else 3), limit)
+            yield from itertools.islice(behind, MOST_BEHIND)

@@ -5,31 +5,11 @@ of the same signals that are well formed; and sigc is asked again, until it acce
 about clocks.
 """
 from sigccause import told_of
-from sigcedit import Edit, applied, with_equation
-from sigchints import hint_of
+from sigcedit import Edit, applied, offset_of, original, place_of, with_equation
 from sigcrun import Refusal
+from sigctried import shown_hint
 
 STAND_IN = {"integer": "{0} := {0} $ init 0", "boolean": "{0} := {0} $ init true", "event": "{0} := ^ {0}"}
-
-
-def offset_of(text, line, col):
-    lines = text.split("\n")
-    return sum(len(it) + 1 for it in lines[: line - 1]) + col - 1
-
-
-def place_of(text, offset):
-    return text.count("\n", 0, offset) + 1, offset - (text.rfind("\n", 0, offset) + 1) + 1
-
-
-def original(offset, edits):
-    """The offset in the old text of an offset in the text with these edits; None inside one."""
-    for it in sorted(edits, key=lambda it: it.start):
-        if offset < it.start:
-            break
-        if offset < it.start + len(it.text):
-            return None
-        offset -= len(it.text) - (it.end - it.start)
-    return offset
 
 
 def equation_at(reader, offset):
@@ -52,14 +32,14 @@ def defined_names(process, equation):
     return [it for it in found if it and it.role in ("output", "local")]
 
 
-def exchange(reader, refusal, offset):
+def exchange(sigc, reader, refusal, before):
     """The edits after which this refusal does not come again, none where there are none."""
-    mended = hint_of(reader.text, reader, refusal).edits
+    mended = shown_hint(sigc, reader, refusal, before).edits
     if mended:
         return list(mended)
     if refusal.text.endswith(" is not defined"):
         return undefined(reader, refusal)
-    process, equation = equation_at(reader, offset)
+    process, equation = equation_at(reader, offset_of(reader.text, refusal.line, refusal.col))
     if equation is None:
         return []
     stand_ins = [STAND_IN[it.kind].format(it.name.text) for it in defined_names(process, equation)]
@@ -80,7 +60,11 @@ def overlap(edits, others):
 
 
 def is_known(reader, refusal):
-    """Whether a refusal is one of the text itself: a syntax error where the reader finds none comes of what was exchanged."""
+    """Whether a refusal is one of the text itself: a syntax error where the reader finds none, and a signal without the
+    definition that the text has, come of what was exchanged."""
+    if refusal.text.endswith(" is not defined"):
+        lefts = {piece.text for process in reader.processes for it in process.equations for piece in (*it.lefts, *it.pieces[:1])}
+        return refusal.text.split()[0] not in lefts
     return refusal.text != "syntax" or any((it.found.line, it.found.col) == (refusal.line, refusal.col) for it in reader.faults)
 
 
@@ -92,14 +76,22 @@ def placed_back(reader, refusal, edits):
 
 def later_refusals(sigc, reader, first, most=6):
     """The refusals of a text behind its first one, at most so many: each with its place in the text."""
-    edits, found, at = [], [], first
-    while at and at.line and not told_of(at.text) and is_known(reader, at) and len(found) < most:
-        if at != first and at not in found and not (at.text.startswith("unknown") and at.text in [it.text for it in found]):
-            found.append(at)
-        new = exchange(reader, at, offset_of(reader.text, at.line, at.col))
+    return [it for it, _ in refusals_of(sigc, reader, first, most)][1:]
+
+
+def refusals_of(sigc, reader, first, most=6):
+    """The refusals of a text, each with the edits after which sigc comes to it: at most so many behind the first one."""
+    edits, found, at = [], [(first, ())], first
+    while at.line and not told_of(at.text) and is_known(reader, at) and len(found) <= most:
+        new = exchange(sigc, reader, at, edits)
         if not new or overlap(new, edits):
             break
         edits = edits + new
         refusal = sigc.check(applied(reader.text, edits))
         at = placed_back(reader, refusal, edits) if refusal else None
+        if at is None:
+            break
+        known = [it for it, _ in found]
+        if is_known(reader, at) and not told_of(at.text) and at.line and at not in known and not (at.text.startswith("unknown") and at.text in [it.text for it in known]):
+            found.append((at, tuple(edits)))
     return found

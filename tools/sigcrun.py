@@ -6,6 +6,7 @@ import shutil
 import subprocess
 import sys
 import tempfile
+import time
 import weakref
 from typing import NamedTuple
 
@@ -13,10 +14,16 @@ import sigclib
 
 TOP = os.path.dirname(os.path.dirname(os.path.realpath(__file__)))
 SECONDS = 120
+# How many answers are kept: more than one search asks, and no more, since an editor asks all day.
+MOST_KNOWN = 500
 NO_DASH = "- is no file here: to read from standard input, name /dev/stdin"
 NO_COMMAND = "these words are not a command"
 # A program that each sigc accepts, to find out which words it takes.
 PROBE = "process P = (? integer A ! integer Y) Y := A;\n"
+
+
+# What ./sigc says first of a program of which nothing was proved.
+UNPROVED = "sigc: nothing was proved of this program\n"
 
 
 class NoProgram(Exception):
@@ -42,7 +49,7 @@ class Refusal(NamedTuple):
 
 
 def program():
-    """The program's file: what $SIGC names, or else what ./sigc at the top of the repository runs, built where that is needed."""
+    """The program's file: what $SIGC names, or else what ./sigc at the top of the repository runs."""
     if os.environ.get("SIGC"):
         return os.environ["SIGC"]
     ran = subprocess.run([f"{TOP}/sigc", "--which"], capture_output=True, text=True)
@@ -80,7 +87,7 @@ class Sigc:
         self.room = tempfile.mkdtemp(prefix="sigc-tools-")
         weakref.finalize(self, shutil.rmtree, self.room, ignore_errors=True)
         self.calls = 0
-        self.known = {}
+        self.known, self.measured = {}, {}
 
     def call(self, *words):
         self.calls += 1
@@ -90,18 +97,25 @@ class Sigc:
             raise NoProgram(f"{self.path}: {error.strerror}") from None
         except subprocess.TimeoutExpired:
             raise NoProgram(f"{self.path}: no answer in {SECONDS} seconds") from None
-        return Answer(ran.returncode, ran.stdout.decode("latin-1"), ran.stderr.decode("latin-1"))
+        return Answer(ran.returncode, ran.stdout.decode("latin-1"), ran.stderr.decode("latin-1").removeprefix(UNPROVED))
 
     def ask(self, command, text, *words):
         """What a command says of a program that is given as a text, a byte a character."""
-        path = f"{self.room}/p.sig"
+        return self.call(command, self.written("p.sig", text), *words)
+
+    def written(self, name, text):
+        """The path of a file of its own with a text."""
+        path = f"{self.room}/{name}"
         with open(path, "w", encoding="latin-1", newline="") as it:
             it.write(text)
-        return self.call(command, path, *words)
+        return path
 
     def check(self, text):
         """Why `check` refuses a text: None where it is accepted."""
         if text not in self.known:
+            if len(self.known) >= MOST_KNOWN:
+                self.known.clear()
+                self.measured.clear()
             said = self.ask("check", text)
             refusal = refusal_of(said.err)
             if said.status and refusal is None:
@@ -117,6 +131,21 @@ class Sigc:
     def takes_pace(self, text):
         """Whether this sigc has the flag --pace, and takes a text with it."""
         return self.has_pace and self.ask("check", text, "--pace").status == 0
+
+
+class Limit(NamedTuple):
+    """How many calls of sigc there may be, and until when."""
+
+    calls: int
+    until: float
+
+    def is_over(self, sigc):
+        return sigc.calls >= self.calls or time.monotonic() > self.until
+
+
+def limit_of(sigc, calls, seconds):
+    """The limit of a search that begins now."""
+    return Limit(sigc.calls + calls, time.monotonic() + seconds)
 
 
 def read_program(path):

@@ -1,31 +1,21 @@
 """What most likely is wrong where the words of a program cannot go on: beginners' mistakes, each with its mend."""
 import itertools
 import re
-from typing import NamedTuple
 
+from sigcaround import Around, found_words, unclosed, wanted_words
 from sigcedit import Edit
+from sigcinterface import INTERFACES
 from sigclib import KINDS, RESERVED
+from sigcmarks import OTHER_WORDS, closed_comments, comment_hint, strange_byte
 from sigcnear import Hint, near
-from sigcread import OPERATORS, RELATIONS
+from sigcrewritten import behind_call, call_inside, if_then_else
+from sigcotherwords import WORDS
+from sigcread import RELATIONS
 
-BEGINNINGS = ("not", "-", "^", "(", "when")
 MEANT = {
     "bool": "boolean", "int": "integer", "nat": "integer", "signal": "event", "mod": "modulo", "rem": "modulo",
-    "div": "/", "node": "process", "var": "where", "let": "(|", "tel": "|)", "returns": "!", "current": "cell",
+    "div": "/", "node": "process", "var": "where", "let": "(|", "tel": "|)", "returns": "!",
 }
-STRANGE = {
-    "&": "`and` is written in letters, and is for booleans",
-    "~": "`not` is written in letters",
-    "#": "a comment is written `% .. %`",
-    ":": "a definition has `:=`",
-    "_": "a name begins with a letter",
-    ".": "there are no names with a dot, and no numbers but integers",
-    '"': "a label ends on its line, and stands in a pragma alone",
-    "'": 'a label is written in `"`',
-    "\\": "not equal is `/=`",
-    "@": "no token has this mark",
-}
-OTHER_WORDS = "marks-and-words-of-other-languages"
 STEPS = "what goes on step by step is a state: tools/sigc-automaton writes states from a table"
 ESTEREL = {
     "present": "there is no `present`: ask a boolean that comes at each instant, by `when B`; an event that does not come cannot be asked",
@@ -33,55 +23,6 @@ ESTEREL = {
     "sustain": "there is no `sustain`: an output has one definition that says when it comes, as `O := when C`",
     **dict.fromkeys(("await", "abort", "suspend", "pause", "loop", "every", "trap", "exit", "halt", "weak", "nothing"), STEPS),
 }
-
-
-class Around(NamedTuple):
-    """A fault of the syntax: the text, the pieces, where the found one stands among them, and the fault."""
-
-    text: str
-    pieces: list
-    at: int
-    fault: object
-
-    def piece(self, step):
-        place = self.at + step
-        return self.pieces[place] if 0 <= place < len(self.pieces) else self.pieces[-1]
-
-    @property
-    def found(self):
-        return self.pieces[self.at]
-
-    @property
-    def before(self):
-        return self.piece(-1)
-
-    def innermost(self):
-        return self.fault.open[-1][1] if self.fault.open else ""
-
-
-def listed(words):
-    return words[0] if len(words) == 1 else ", ".join(words[:-1]) + " or " + words[-1]
-
-
-def wanted_words(fault):
-    """What could stand at a fault, in few words."""
-    rest, words = list(fault.wanted), []
-    if "an expression" in rest:
-        rest = [it for it in rest if it not in BEGINNINGS]
-    if sum(it in OPERATORS for it in rest) > 3:
-        rest = [it for it in rest if it not in OPERATORS] + ["an operator"]
-    for it in rest:
-        words.append(it if it.startswith(("a ", "an ")) else f"`{it}`")
-    return listed(words) if words else ""
-
-
-def found_words(piece):
-    return "the end of the text" if piece.kind == "end" else f"`{piece.text}`"
-
-
-def unclosed(fault):
-    """What is open at the end of a text: each opening and what closes it, the innermost first."""
-    return [f"the `{it.text}` at {it.line}:{it.col} wants `{close}`" for it, close in reversed(fault.open)]
 
 
 def of_first_word(text):
@@ -124,7 +65,7 @@ def other_language(it):
 def program_in_comment(it):
     if it.at == 0 and "process" in it.text[: it.found.start]:
         words = "a comment runs to the next `%`, not to the end of the line: the program stands inside one"
-        return Hint([words], "two-comments-with-a-program-between-them")
+        return [Hint([words], "two-comments-with-a-program-between-them", edits) for edits in (closed_comments(it.text), ())]
     return None
 
 
@@ -155,13 +96,6 @@ def no_semicolon_of_group(it):
     return None
 
 
-def if_then_else(it):
-    words = [piece.text for piece in it.pieces[max(0, it.at - 12) : it.at + 1] if piece.line == it.found.line]
-    if set(words) & {"if", "then", "else"}:
-        return Hint(["there is no `if`: `(X when B) default Y` is X where B is true, and else Y"], "if-then-else")
-    return None
-
-
 def lustre_delay(it):
     if it.before.text == "pre" or (it.before.text == "-" and it.found.text == ">") or it.found.text in ("pre", "fby"):
         return Hint(["the previous value of X is `X $ init C`, and C the first one"], "0---pre-n--1")
@@ -179,13 +113,13 @@ def esterel_word(it):
 
 
 def comment_mark(it):
-    marks = [piece for piece in it.pieces[max(0, it.at - 8) : it.at + 2] if piece.line == it.found.line]
-    for one, other in zip(marks, marks[1:]):
-        if one.end == other.start and one.text + other.text in ("--", "//", "/*"):
-            end = it.text.find("\n", one.start)
-            end = len(it.text) if end < 0 else end
-            words = it.text[other.end : end].strip().replace("%", "").removesuffix("*/").strip()
-            return Hint(["a comment is written `% .. %`"], OTHER_WORDS, [Edit(one.start, end, f"% {words} %")])
+    """A comment of another language before the fault: on its line, or on the line before, where nothing separates them."""
+    for place in range(min(it.at + 1, len(it.pieces) - 2), max(-1, it.at - 40), -1):
+        one, other = it.pieces[place : place + 2]
+        if one.end == other.start and one.text + other.text in ("--", "//", "/*") and one.line >= it.found.line - 1:
+            behind = [piece for piece in it.pieces[place:it.at] if piece.line > one.line]
+            if not {piece.text for piece in behind} & {"|", "(|", ";"}:
+                return comment_hint(it.text, one)
     return None
 
 
@@ -213,20 +147,6 @@ def equals_for_definition(it):
     if "^=" in it.fault.wanted and texts[begun + 2 : begun + 3] == ["="] and it.pieces[begun + 1].kind == "name":
         mark = it.pieces[begun + 2]
         return Hint(["a definition has `:=`, and `=` compares"], "y--a--1", [Edit(mark.start, mark.end, ":=")])
-    return None
-
-
-def call_inside(it):
-    if it.found.text not in ("(", "{") or it.before.kind != "name" or it.before.text in RESERVED:
-        return None
-    if "an operator" in wanted_words(it.fault):
-        return Hint(["a call is the whole right side of an equation: give its result a name"], "a-call-inside-an-expression")
-    return None
-
-
-def behind_call(it):
-    if it.before.text == ")" and it.found.text in OPERATORS and not set(OPERATORS) & set(it.fault.wanted):
-        return Hint(["a call is the whole right side of an equation: give its result a name"], "a-call-inside-an-expression")
     return None
 
 
@@ -266,9 +186,18 @@ def delay_of_two(it):
 
 
 def chained_relation(it):
-    if it.found.text in RELATIONS and "an expression" not in it.fault.wanted:
-        return Hint(["relations do not chain: `(A < B) and (B < C)`"], "syntax")
-    return None
+    """`A < B < C`, and `A > 0 and < 9`."""
+    if it.found.text not in RELATIONS:
+        return None
+    if "an expression" in it.fault.wanted and it.before.text in ("and", "or") and it.piece(-3).text in RELATIONS:
+        left = it.piece(-4)
+        return Hint(["a relation has two sides, also behind `and`"], "syntax", [Edit(it.found.start, it.found.start, f"{left.text} ")])
+    if "an expression" in it.fault.wanted:
+        return None
+    words, sides = "relations do not chain: `(A < B) and (B < C)`", [it.piece(step) for step in (-3, -1, 1)]
+    is_plain = it.piece(-2).text in RELATIONS and all(piece.kind in ("name", "number") for piece in sides)
+    made = f"({it.text[sides[0].start : it.before.end]}) and ({it.text[it.before.start : sides[2].end]})"
+    return [Hint([words], "syntax", edits) for edits in ([[Edit(sides[0].start, sides[2].end, made)]] if is_plain else []) + [()]]
 
 
 def reserved_name(it):
@@ -300,30 +229,31 @@ def open_end(it):
 
 
 MISTAKES = [
-    other_language, other_kind, comma_of_kinds, program_in_comment, no_equals, no_end, no_semicolon, no_semicolon_of_group, lustre_delay, if_then_else, esterel_word, comment_mark, other_mark,
-    semicolon_of_equations, bar_twice, equals_for_definition, call_inside, behind_call, no_bar, init_of_input, delay_of_two, other_word,
+    other_language, *INTERFACES, *WORDS, other_kind, comma_of_kinds, program_in_comment, no_equals, no_end, no_semicolon, no_semicolon_of_group, lustre_delay, if_then_else, esterel_word,
+    comment_mark, other_mark, semicolon_of_equations, bar_twice, equals_for_definition, call_inside, behind_call, no_bar, init_of_input, delay_of_two, other_word,
     chained_relation, late_pragmas, misspelt, reserved_name, open_bracket, open_end,
 ]
 
 
-def syntax_hint(text, reader, line, col):
-    """The hint of a syntax error, where the reader stops at the place that sigc names."""
+def syntax_hints(text, reader, line, col):
+    """The hints at a syntax error, where the reader stops at the place that sigc names."""
     fault = next((it for it in reader.faults if (it.found.line, it.found.col) == (line, col)), None)
     if fault is None:
-        return Hint([], "syntax")
-    around = Around(text, reader.pieces, reader.pieces.index(fault.found), fault)
-    hint = next((it for it in (rule(around) for rule in MISTAKES) if it), Hint([], "syntax"))
+        return [Hint([], "syntax")]
+    around = Around(text, reader.pieces, reader.pieces.index(fault.found), fault, reader.processes)
     wanted = wanted_words(fault)
     said = [f"found {found_words(fault.found)}" + (f"; wanted {wanted}" if wanted else "")]
-    return hint._replace(lines=said + hint.lines)
+    found = [hint for rule in MISTAKES for hint in listed_hints(rule(around))]
+    return [it._replace(lines=said + it.lines) for it in [*found, Hint([], "syntax")]]
 
 
-def byte_hint(text, line, col):
+def listed_hints(found):
+    """What a rule gives as a list: nothing, a hint, or several."""
+    return [] if found is None else [found] if isinstance(found, Hint) else found
+
+
+def byte_hints(text, line, col):
     if of_first_word(text):
-        return of_first_word(text)
-    rest = text.split("\n")[line - 1][col - 1 :]
-    if rest.startswith("\xef\xbb\xbf"):
-        return Hint(["the file begins with a byte order mark: save it without one"])
-    if rest[:1] in STRANGE:
-        return Hint([STRANGE[rest[0]]])
-    return Hint(["only ASCII stands outside comments"]) if rest[:1] > "~" else Hint([])
+        return [of_first_word(text)]
+    lines = text.split("\n")
+    return strange_byte(text, sum(len(it) + 1 for it in lines[: line - 1]) + col - 1)

@@ -60,9 +60,19 @@ def of_loops(draft, x, y):
     inside = set().union(*(it.names for it in found)) if found else set()
     if name_of(y) in inside:
         yield draft.equated(first, f"{name_of(y)} ^= {name_of(x)}")
+    for loop in found:
+        pace = paces_asked(first, loop)
+        if len(pace) > 1:
+            yield draft.equated(first, " ^= ".join([*(it.name for it in found), " ^+ ".join(pace)]))
     others = [it for loop in found for it in loop.others] + [name_of(x), *tied_names(first), *map(name_of, first.signals())]
     for other in dict.fromkeys(it for it in others if it not in inside and first.declaration(it)):
         yield draft.equated(first, " ^= ".join([*(it.name for it in found), other]))
+
+
+def paces_asked(process, loop):
+    """The instants at which the sides of a loop are taken: events, and booleans where they are true."""
+    asked = [process.declaration(it) for it in loop.others if is_asked(process, it)]
+    return [name_of(it) if it.kind == "event" else f"(when {name_of(it)})" for it in asked if it and it.kind != "integer"]
 
 
 def of_called_loops(draft):
@@ -165,10 +175,19 @@ def clocks(draft, told):
     if is_input_of(draft, process, declaration):
         yield from told_by_others(draft, [declaration])
         yield from asked(draft, process, declaration)
+        yield from of_asked_events(draft, declaration)
+        yield from of_loops_below(draft, name_of(declaration))
     elif process is draft.first:
         yield from of_loops_below(draft, name_of(declaration))
     yield from ties(draft, process, declaration, ("input",))
     yield from ties(draft, process, declaration, ("output", "local"))
+
+
+def of_asked_events(draft, declaration):
+    """Booleans in the place of other events that are asked whether they come."""
+    for it in draft.first.inputs:
+        if it.kind == "event" and it is not declaration and is_asked(draft.first, name_of(it)):
+            yield as_boolean(draft, draft.first, it, declaration)
 
 
 def of_loops_below(draft, name):
@@ -176,14 +195,22 @@ def of_loops_below(draft, name):
     first = draft.first
     for loop in above(first, name, untied(first)):
         booleans = [it for it in loop.others if first.declaration(it) and first.declaration(it).kind == "boolean"]
-        for words in [*(f"when {it}" for it in booleans), *loop.others]:
+        pace = paces_asked(first, loop)
+        for words in [*([" ^+ ".join(pace)] if len(pace) > 1 else []), *(f"when {it}" for it in booleans), *loop.others]:
             yield draft.equated(first, f"{loop.name} ^= {words}")
 
 
 def is_asked(process, name):
-    """Whether something is taken where a signal is there, so that it has to be known whether it is."""
+    """Whether something is taken where a signal is there, or is false, so that it has to be known whether it is."""
     nodes = (it for equation in process.equations for whole in equation.expressions() for it in walk(whole))
-    return any(it.op in ("when", "at") and it.parts[-1].op == "name" and it.parts[-1].at.text == name for it in nodes)
+    return any(it.op in ("when", "at") and named(it.parts[-1]) == name for it in nodes)
+
+
+def named(node):
+    """The signal of a condition that is one, or its contrary."""
+    while node.op == "not":
+        node = node.parts[0]
+    return node.at.text if node.op == "name" else None
 
 
 def as_boolean(draft, process, event, pace):

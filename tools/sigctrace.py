@@ -27,7 +27,7 @@ class Run:
 
     def __init__(self, files, path, flows_path, words=()):
         self.files, self.words = files, [it for it in words if it != "--pace"]
-        laid = Laid(files, path, "--pace" in words)
+        self.laid = laid = Laid(files, path, "--pace" in words)
         self.program, self.classes, self.flat, self.paces = laid.program, laid.classes, laid.flat, laid.paces
         self.observed = laid.observed()
         self.flows_text = sigccall.text_of(flows_path)
@@ -36,9 +36,17 @@ class Run:
         self.end, self.copy, self.status = "", "", 0
 
     def __iter__(self):
-        with sigccall.Call("run", self.source, self.flows, "--workers", "0", *self.words) as call:
+        with self.call() as call:
             yield from self.instants(call.lines())
-            line, self.status = call.ended()
+            self.ends(call)
+
+    def call(self):
+        """The run of the program that says all."""
+        return sigccall.Call("run", self.source, self.flows, "--workers", "0", *self.words)
+
+    def ends(self, call):
+        """Keeps how the run ended; Refused where it is none."""
+        line, self.status = call.ended()
         if self.status not in (0, 3):
             told = " once every signal is an output" if self.status == 1 else ""
             raise sigccall.Refused(self.files.renamed(line) + told, self.status)
@@ -62,8 +70,8 @@ class Run:
 
     def speakers(self):
         """For each name that is written the signals that it speaks for, each input with the values of its flow."""
-        flows = sigcflows.read_flows(self.flows_text, [it.name for it in self.flat.inputs()])
-        rest = {name: map(sigcflows.normal, values) for name, values in flows.items()}
+        flows, sources = sigcflows.read_flows(self.flows_text, [it.name for it in self.flat.inputs()]), self.observed.sources
+        rest = {name: map(sigcflows.normal, flows[source]) for name, source in sources.items()}
         return {name: [(it, rest.get(it)) for it in signals] for name, signals in self.observed.names.items()}
 
 
@@ -83,6 +91,11 @@ def trace_of(text):
             raise sigclib.Unreadable(f"line {number} is no instant of {len(names)} signals")
         instants.append({name: it for name, it in zip(names, row) if it != "."})
     return names, instants
+
+
+def called(value, states):
+    """A value, or the name of the state that it is."""
+    return states[int(value)] if states and value.isdigit() and int(value) < len(states) else value
 
 
 def is_in(name, asked):

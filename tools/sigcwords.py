@@ -31,7 +31,7 @@ COMMANDS = {
     "load": Command(("SEED", "STAGES"), ("--workers", "--capacity"), "runs a program that is made from a number, and counts what it writes"),
 }
 OPTIONS = {
-    "--workers": Option(0, 64, 2, "the threads beside the first one"),
+    "--workers": Option(0, 64, 2, "the threads at work"),
     "--capacity": Option(1, 65536, 16, "the items that a link holds"),
     "--instants": Option(1, 1000000000, 1000000, "the most instants of a run"),
 }

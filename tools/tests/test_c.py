@@ -288,6 +288,11 @@ class Written(unittest.TestCase):
         flows = written(self.room, "p.flows", "TEMPERATURE -5 300 301")
         self.assertEqual(self.said(made, flows), ("HEATING true\nHEATING false\n", "end: input TEMPERATURE out of range after 2 instants\n", 3))
         self.assertEqual(self.said(made, written(self.room, "p.flows", "TEMPERATURE 65536")), ("", "end: input TEMPERATURE out of range after 0 instants\n", 3))
+        told = "TEMPERATURE: this is outside of its range\n"
+        self.assertEqual(self.said(made, "--live", given="-6\n-5\n301\n300\n"), ("HEATING true\nHEATING false\n", f"{told}{told}end: no line after 2 instants\n", 0))
+        asked = "TEMPERATURE? an integer from -5 to 300 is wanted\n"
+        said = self.said(made, "--live=values", given="-6\nx\n-5\n300")
+        self.assertEqual(said, ("HEATING true\nHEATING false\n", f"{asked}{asked}TEMPERATURE? TEMPERATURE? TEMPERATURE? end: input TEMPERATURE exhausted after 2 instants\n", 0))
 
     def test_mains_of_every_kind(self):
         """Programs without inputs, without outputs, and with events alone: nothing of their mains is unused."""
@@ -310,6 +315,10 @@ class Written(unittest.TestCase):
         wrong += "".join(f"{it}, where 3 are wanted, `.` where an input does not come: TICK REQ V\n" for it in ("2 words", "1 word", "5 words"))
         self.assertEqual(self.said(made, "--live", given=rows), ("HELD 5\nALARM false\nHELD 5\nALARM false\nHELD 5\nALARM false\n", f"{wrong}end: no line after 3 instants\n", 0))
         self.assertEqual(self.said(made, "--live", "--instants=1", given=rows), ("HELD 5\nALARM false\n", "end: limit after 1 instants\n", 0))
+        out, err, status = self.said(made, "--help")
+        self.assertEqual((out.count(made), err, status), (3, "", 0))
+        self.assertIn(" TICK REQ V\n", out)
+        self.assertEqual(self.said(made, "--halp"), ("", "error: these words are not a command\n", 2))
 
     def test_live_values(self):
         made = self.made(f"{EXAMPLES}/watch.sig")

@@ -2,6 +2,7 @@
 import os
 import tempfile
 import unittest
+import unittest.mock
 
 from helping import NEEDS_SIGC, TOP, module_of, program, ran
 
@@ -25,7 +26,7 @@ MISTAKES = {
     "process P (? integer A ! integer Y)\n(| Y := A |);\n": ("the--of-a-process-is-missing", "process P = (?"),
     TRUTHS + "(| LOW := A < 3\n | HIGH := A > 9\n | Y := LOW or HIGH |)\nwhere boolean LOW; HIGH; end;\n": ("boolean-low-high", "boolean LOW, HIGH;"),
     HEAD + "(| Y := A + K |)\nwhere constant integer K = 5; end;\n": ("constant-integer-k--5", ""),
-    HEAD + "(| Y := A + OFFSET |)\nwhere integer OFFSET init 3; end;\n": ("offset-init-3-as-a-constant", ""),
+    HEAD + "(| Y := A + OFFSET |)\nwhere integer OFFSET init 3; end;\n": ("offset-init-3-as-a-constant", "Y := A + 3"),
     "process P = (? integer A, OFFSET init 3 ! integer Y)\n(| Y := A + OFFSET |);\n": ("offset-init-3-as-a-constant", ""),
     "process P = (? event A, B ! event Y)\n(| Y := A or B |);\n": ("a-or-b-of-events", "A ^+ B"),
     "process P = (? event A, B; boolean C ! boolean Y)\n(| Y := A or (B when C) | A ^= when Y |);\n": ("a-or-b-of-events", ""),
@@ -53,7 +54,7 @@ MISTAKES = {
     "process P = (? integer Level ! integer Y)\n(| Y := level + 1 |);\n": ("unknown-name-x", "Level + 1"),
     HEAD + "(| Y := TWICE(A) |)\nwhere process TWCE = (? integer X ! integer Z) Z := X; end;\n": ("unknown-name-x", "TWCE(A)"),
     "% A sum\nprocess P = (? integer A ! integer Y)\n(| Y := A + 1 |);\n% the end\n": ("two-comments-with-a-program-between-them", ""),
-    HEAD + "(| Y := A + 1 |);   % a sum\n": ("comment-not-closed", ""),
+    HEAD + "(| Y := A + 1 |);   % a sum\n": ("comment-not-closed", "% a sum %"),
     HEAD + "(| Y := 1 |);\n": ("y--1", "Y := 1 when ^A"),
     HEAD + "(| Y := (A when (A > 0)) default 0 |);\n": ("bare-constant", "default (0 when ^A)"),
     TRUTHS + "(| Y := Q{5}(A) |)\nwhere process Q = {integer K} (? integer X ! boolean Z) Z := X < -K; end;\n": ("-limit-and-m---1-of-a-parameter", ""),
@@ -64,6 +65,23 @@ MISTAKES = {
     "process P = (? integer A; event T ! integer Y)\n(| Y := A cell T init 0 |);\n": ("two-events-or-a-value-that-is-held-between-two-ticks", ""),
     "process P = (? integer A; boolean B ! integer Y)\n(| Y := A + (A when B) | A ^= B |);\n": ("a--a-when-b", ""),
     "process P = (? integer A, B ! integer Y)\n(| Y := A + 1 |);\n": ("an-unused-input", ""),
+    "process P = (? integer A, Y)\n(| Y := A + 1 |);\n": ("syntax", "(? integer A ! integer Y)"),
+    "process P = (integer A ! integer Y)\n(| Y := A |);\n": ("syntax", "(? integer A"),
+    HEAD + "begin Y := A + 1 end;\n": ("syntax", "(| Y := A + 1 |);"),
+    HEAD + "{ Y := A + 1 };\n": ("syntax", "(| Y := A + 1 |);"),
+    HEAD + "(| Y := A + 1 |)\nend;\n": ("syntax", "|);"),
+    HEAD + "Y := Z\n| Z := A;\n": ("syntax", "(| Y := Z\n| Z := A |);"),
+    HEAD + "(| Y := Z | Z := A |)\ninteger Z;\nend;\n": ("syntax", "where integer Z;"),
+    TRUTHS + "(| Y := 0 < A < 10 |);\n": ("syntax", "(0 < A) and (A < 10)"),
+    TRUTHS + "(| Y := A > 0 and < 10 |);\n": ("syntax", "A > 0 and A < 10"),
+    HEAD + "(| Y ::= A |);\n": ("y--a--1", "Y := A"),
+    HEAD + "(| Y <- A |);\n": ("y--a--1", "Y := A"),
+    "process P = (? boolean A, B ! boolean Y)\n(| Y := A && B |);\n": ("marks-and-words-of-other-languages", "A and B"),
+    "process P = (? boolean A ! boolean Y)\n(| Y := !A |);\n": ("marks-and-words-of-other-languages", "Y := not A"),
+    HEAD + "(| Y := A # the sum\n |);\n": ("marks-and-words-of-other-languages", "A % the sum %"),
+    HEAD + "(| Y := A when A |);\n": ("types-clash", "A when (A /= 0)"),
+    "process P = (? integer A ! event Y)\n(| Y := A > 3 |);\n": ("types-clash", "Y := when (A > 3)"),
+    HEAD + "(| Y := A > 3 |);\n": ("types-clash", "! boolean Y)"),
     HEAD + "(| X := A when (A < 9) | Z := (A + 1) when (A < 9) | Y := X + Z |)\nwhere integer X, Z; end;\n": ("the-same-comparison-twice", ""),
 }
 
@@ -90,7 +108,7 @@ class Hints(unittest.TestCase):
         self.assertEqual(lines[1:], ["the `(` at 2:9 wants `)`", "the `(|` at 2:1 wants `|)`"])
 
     def test_near_words(self):
-        for word, words, meant in [("chek", sigcwords.COMMANDS, "check"), ("level", ["LEVEL"], "LEVEL"), ("A", ["B", "C"], ""), ("proces", ["process"], "process")]:
+        for word, words, meant in [("chek", sigcwords.COMMANDS, "check"), ("level", ["LEVEL"], "LEVEL"), ("A", ["B", "C"], ""), ("proces", ["process"], "process"), ("GO", ["G0", "H"], "G0")]:
             self.assertEqual(sigcnear.near(word, list(words)), meant)
 
 
@@ -270,7 +288,7 @@ class OverTheProgram(unittest.TestCase):
         self.assertEqual(self.hint(text)[1], ["nothing asks the boolean PRESSED: is `B ^= when PRESSED` meant?"])
 
     def test_two_inputs_that_nothing_ties(self):
-        self.assertIn("`A ^= B` where they come together", self.hint("process P = (? integer A, B ! integer Y, Z)\n(| Y := A | Z := B |);\n")[1][0])
+        self.assertIn("say how A and B relate", self.hint("process P = (? integer A, B ! integer Y, Z)\n(| Y := A | Z := B |);\n")[1][0])
 
     def later(self, text):
         found = sigcmore.later_refusals(self.sigc, sigcread.read(text), self.sigc.check(text))
@@ -297,10 +315,22 @@ class OverTheProgram(unittest.TestCase):
             done = ran("sigc-caret", *words, cwd=room)
             return done.returncode, done.stderr.decode()
 
+    def test_a_program_of_which_nothing_was_proved(self):
+        text = "process P = (? integer A ! integer Y)\n(| Y := X + A | X := Y |)\nwhere integer X; end;\n"
+        with tempfile.TemporaryDirectory() as room:
+            with open(f"{room}/sigc", "w", encoding="ascii") as it:
+                it.write(f"#!/bin/sh\necho 'sigc: nothing was proved of this program' >&2\nexec {program()} \"$@\"\n")
+            os.chmod(f"{room}/sigc", 0o755)
+            with unittest.mock.patch.dict(os.environ, {"SIGC": f"{room}/sigc"}):
+                status, shown = self.shown(text, "check", "p.sig")
+        self.assertEqual((status, shown.replace("sigc: nothing was proved of this program\n", "")), self.shown(text, "check", "p.sig"))
+        self.assertIn("cycle through", shown)
+
     def test_the_entry_itself(self):
         status, shown = self.shown("process P = (? bool A ! boolean Y)\n(| Y := not A |);\n", "check", "--explain", "p.sig")
         self.assertEqual(status, 1)
-        self.assertIn("did you mean `boolean`?\n      see docs/errors.md#bool-and-int\n", shown)
+        self.assertIn("did you mean `boolean`?\n      mend, accepted by check:\n", shown)
+        self.assertIn("      see docs/errors.md#bool-and-int\n", shown)
         self.assertIn("      | process P = (? boolean A ! boolean Y)\n", shown)
 
     def test_warnings(self):

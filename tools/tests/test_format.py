@@ -40,7 +40,7 @@ def programs():
     """The texts of all programs of the repository that are read as programs, those in documents too."""
     for folder in (EXAMPLES, TUTORIAL, f"{TOP}/bench"):
         for name in sorted(os.listdir(folder)):
-            if name.endswith(".sig"):
+            if name.endswith(".sig") and name != "heater-2.sig":
                 yield name, sigclib.read_text(f"{folder}/{name}")
     for name in sorted(os.listdir(f"{TOP}/docs")):
         if name.endswith(".md"):

@@ -1,18 +1,22 @@
 """The language server, spoken to directly; and the files for editors, in Vim and Neovim where they are installed."""
 import json
 import os
+import pathlib
 import shutil
 import subprocess
 import sys
 import tempfile
+import time
 import unittest
 from unittest import mock
 
 from helping import EXAMPLES, NEEDS_SIGC, TOOLS, only_with, program, ran
 
 import sigcdocument
+import sigcentries
 import sigcformat
 import sigcrun
+import sigcwhen
 
 URI = "file:///p.sig"
 TIMER = "% \u00e9 %\nprocess P = (? event TICK, RESET ! integer N)\n(| N := (0 when RESET) default (ZN + 1)\n | ZN := N $ init 0\n | N ^= TICK\n |)\nwhere integer ZN; end;\n"
@@ -84,7 +88,9 @@ class Conversation(unittest.TestCase):
         self.assertEqual(self.client.end(), 0)
 
     def test_a_refusal_with_its_mends(self):
-        (found,) = self.client.open(TIMER)
+        found, guilty = self.client.open(TIMER)
+        self.assertEqual((guilty["range"]["start"], guilty["severity"]), ({"line": 2, "character": 3}, 3))
+        self.assertEqual([it["location"]["range"] for it in found["relatedInformation"]], [guilty["range"]])
         self.assertEqual((found["range"], found["severity"], found["message"].split("\n")[0]), (spot(1, 27, 32), 1, "clock of RESET is not determined"))
         actions = self.client.ask("textDocument/codeAction", {"textDocument": {"uri": URI}, "range": spot(1, 0, 5)})["result"]
         self.assertEqual(actions[0]["title"], "RESET as a boolean that comes with TICK")
@@ -146,6 +152,66 @@ class Conversation(unittest.TestCase):
         symbols = self.client.ask("textDocument/documentSymbol", {"textDocument": {"uri": URI}})["result"]
         self.assertEqual([it["name"] for it in symbols], ["WATCH", "COUNT"])
 
+    def opened(self, name):
+        with open(f"{EXAMPLES}/{name}", encoding="utf-8") as it:
+            return self.client.open(it.read())
+
+    def test_clocks_in_words(self):
+        self.opened("watch.sig")
+        self.assertIn("clock: when REQ, some of the instants of TICK", self.client.at("hover", 5, 3)["result"]["contents"]["value"])
+        guarded = "process P = (? integer A; boolean SENSE, HELD ! integer Y, Z)\n(| SENSE ^= A ^= HELD\n | Y := A when (SENSE and not HELD)\n | Z := Y default (0 when HELD)\n |);\n"
+        self.client.notify("textDocument/didChange", {"textDocument": {"uri": URI}, "contentChanges": [{"text": guarded}]})
+        self.client.read()
+        self.assertIn("clock: when SENSE and not HELD, ", self.client.at("hover", 2, 3)["result"]["contents"]["value"])
+
+    def hints(self, first, last):
+        words = {"textDocument": {"uri": URI}, "range": {"start": {"line": first, "character": 0}, "end": {"line": last, "character": 0}}}
+        return [(it["position"]["line"], it["position"]["character"], it["label"]) for it in self.client.ask("textDocument/inlayHint", words)["result"]]
+
+    def test_inlay_hints(self):
+        self.opened("watch.sig")
+        self.assertEqual(
+            self.hints(6, 9),
+            [(6, 7, ": integer"), (6, 7, "at every instant"), (7, 6, ": integer"), (7, 6, "at every instant"), (8, 7, ": boolean"), (8, 7, "at every instant")],
+        )
+        self.assertEqual(self.hints(14, 15), [(14, 6, ": integer"), (14, 6, "at every instant")])
+        self.client.notify("textDocument/didChange", {"textDocument": {"uri": URI}, "contentChanges": [{"text": TIMER}]})
+        self.client.read()
+        self.assertEqual(self.hints(0, 9), [(2, 4, ": integer"), (3, 5, ": integer")])
+
+    def test_links_to_the_page_of_errors(self):
+        self.client.open(TIMER)
+        (link, *_) = self.client.ask("textDocument/documentLink", {"textDocument": {"uri": URI}})["result"]
+        page, _, entry = link["target"].partition("#")
+        self.assertEqual(link["range"], spot(1, 27, 32))
+        with open(page.removeprefix("file://"), encoding="utf-8") as it:
+            headings = [sigcentries.anchor(line.lstrip("# ").strip()) for line in it if line.startswith("#")]
+        self.assertIn(entry, headings)
+        self.opened("watch.sig")
+        self.assertEqual(self.client.ask("textDocument/documentLink", {"textDocument": {"uri": URI}})["result"], [])
+
+    def found(self, query):
+        found = self.client.ask("workspace/symbol", {"query": query})["result"]
+        return [(it["name"], it["containerName"], it["location"]["uri"].rpartition("/")[2], it["location"]["range"]["start"]) for it in found]
+
+    def test_symbols_of_all_programs(self):
+        with tempfile.TemporaryDirectory(prefix="sigc %") as room:
+            for name, text in (("a.sig", TIMER), ("b b.sig", TIMER.replace("ZN", "OLDER")), (".hidden.sig.swp", TIMER), ("c.txt", TIMER)):
+                with open(f"{room}/{name}", "w", encoding="utf-8") as it:
+                    it.write(text)
+            os.mkfifo(f"{room}/pipe.sig")
+            os.mkdir(f"{room}/.git")
+            shutil.copy(f"{room}/a.sig", f"{room}/.git/a.sig")
+            uri = pathlib.Path(room).as_uri()
+            self.client.ask("initialize", {"workspaceFolders": [{"uri": uri, "name": "it"}]})
+            self.assertEqual(self.found("zn"), [("ZN", "P", "a.sig", {"line": 6, "character": 14})])
+            self.assertEqual(self.found("olr"), [("OLDER", "P", "b%20b.sig", {"line": 6, "character": 14})])
+            self.assertEqual([it[:3] for it in self.found("P")], [("P", "", "a.sig"), ("P", "", "b%20b.sig")])
+            self.client.notify("textDocument/didOpen", {"textDocument": {"uri": f"{uri}/a.sig", "text": TIMER.replace("ZN", "NEWER")}})
+            self.client.read()
+            self.assertEqual(self.found("zn"), [])
+            self.assertEqual([it[:3] for it in self.found("newer")], [("NEWER", "P", "a.sig")])
+
     def test_what_is_no_request(self):
         self.assertEqual(self.client.ask("textDocument/nothing", {})["error"]["code"], -32601)
         self.assertEqual(self.client.ask("textDocument/hover", {})["error"]["code"], -32602)
@@ -157,6 +223,24 @@ class Conversation(unittest.TestCase):
         self.client.open("\x00\ud83d\ude00 nonsense")
         self.client.at("completion", 99, 99)
         self.assertIsNone(self.client.at("definition", 99, 99)["result"])
+
+
+@NEEDS_SIGC
+class Late(unittest.TestCase):
+    def test_a_clock_that_has_too_many_words(self):
+        names = ", ".join(f"B{i}" for i in range(60))
+        equal, sum_ = " ^= ".join(f"B{i}" for i in range(60)), " xor ".join(f"B{i}" for i in range(60))
+        text = f"process P = (? integer A; boolean {names} ! integer Y)\n(| Y := A when ({sum_})\n | A ^= {equal} |);\n"
+        when = sigcwhen.When(sigcrun.Sigc(program()), text)
+        self.assertEqual(when.words("B7"), "at every instant")
+        begun = time.monotonic()
+        when.words("Y")
+        self.assertLess(time.monotonic() - begun, 2)
+
+    def test_what_is_not_known(self):
+        sigc = sigcrun.Sigc(program())
+        self.assertEqual(sigcwhen.When(sigc, TIMER).words("N"), "")
+        self.assertEqual(sigcwhen.When(sigc, sigcrun.PROBE).words("NONE"), "")
 
 
 class Places(unittest.TestCase):

@@ -96,7 +96,7 @@ class Paced(unittest.TestCase):
 
     def test_both_ways_out_are_told(self):
         done = ran("sigc-caret", "check", self.words[0])
-        self.assertIn("`U ^= V` where they come together", done.stderr)
+        self.assertIn("mend, accepted by check: the clock equation U ^= V", done.stderr)
         self.assertIn("with --pace each of their clocks gets a boolean input, pace_1 and so on", done.stderr)
         self.assertIn(f"mend, accepted by check: sigc check {self.words[0]} --pace\n", ran("sigc-why", self.words[0]).stdout)
 

@@ -39,6 +39,14 @@ class Trees(unittest.TestCase):
         self.assertIn(r'c0 [label="A B Y\lF#1: X Z\lF#1/G#2: U V\l"];', done.stdout)
 
 
+    @needs_sigc
+    def test_a_line_says_when_a_clock_comes(self):
+        drawn = ran("clocks2dot", "--tree", f"{EXAMPLES}/pump.sig").stdout
+        self.assertIn('[label=" when FRONT"];', drawn)
+        self.assertIn('[label=" when not FRONT"];', drawn)
+        self.assertIn('[label=" when pace_1"];', ran("clocks2dot", "--pace", "--tree", f"{EXAMPLES}/buttons.sig").stdout)
+
+
 class Codes(unittest.TestCase):
     def test_one_arrow_for_all_links(self):
         done = ran("clocks2dot", given=CODE)

@@ -267,7 +267,8 @@ class WhatCannotBeAsked(unittest.TestCase):
             path = written(folder, "p.sig", COUNTER)
             waits = written(folder, "z3", "#!/bin/sh\nsleep 100\n")
             os.chmod(waits, 0o755)
-            child = subprocess.Popen([sys.executable, f"{TOOLS}/sigc-prove", path, "--never", "N > 10"], env={**os.environ, "Z3": waits}, stdout=subprocess.PIPE, stderr=subprocess.PIPE)
+            child = subprocess.Popen([sys.executable, f"{TOOLS}/sigc-prove", path, "--never", "N > 10"], env={**os.environ, "Z3": waits}, stdout=subprocess.PIPE, stderr=subprocess.PIPE,
+                                     preexec_fn=lambda: signal.signal(signal.SIGINT, signal.SIG_DFL))  # a shell's background job ignores it
             time.sleep(1.5)
             child.send_signal(signal.SIGINT)
             _, err = child.communicate(timeout=20)

@@ -3,10 +3,12 @@ import os
 import shutil
 import tempfile
 import unittest
+import unittest.mock
 
 from calling import EXAMPLES, TUTORIAL, module_of, needs_sigc, pairs, ran, sigc, written
 
 import sigclib
+import sigcmeasure as measure
 
 runner, table = module_of("sigc-run"), module_of("sigc-table")
 WATCH = (f"{EXAMPLES}/watch.sig", f"{EXAMPLES}/watch.flows")
@@ -31,6 +33,25 @@ class OneRun(unittest.TestCase):
         self.assertRegex(done.stderr, r"^workers: [012] \(of a piece of the run: 0: \d+ ms, 1: \d+ ms, 2: \d+ ms\)\nend: ")
         self.assertEqual(len(done.stdout.splitlines()), 40_000)
 
+    def test_what_workers_gain(self):
+        done = ran("sigc-run", f"{EXAMPLES}/sum.sig", f"{EXAMPLES}/sum.flows", "--measure")
+        self.assertRegex(done.stdout, r"^without workers: \d+ ms, 1 cluster\none cluster is run without workers\n$")
+        with tempfile.TemporaryDirectory() as room:
+            flows = written(room, "w.flows", "TICK" + " true" * 60_000 + "\nREQ" + " false" * 60_000 + "\n")
+            done = ran("sigc-run", WATCH[0], flows, "--measure")
+        self.assertRegex(done.stdout, r"^without workers: \d+ ms, 2 clusters\n(times|a run of less)")
+        self.assertEqual(done.returncode, 0)
+
+    def test_a_run_that_writes_another_text_is_told(self):
+        with unittest.mock.patch.object(measure, "run", lambda words, workers, capacity: (1, str(workers))):
+            self.assertRaises(measure.Differing, measure.table_of, ["P", "F"], 2)
+
+    def test_the_table_of_what_workers_gain(self):
+        table = {(capacity, workers): 1 / workers for capacity in measure.CAPACITIES for workers in (1, 2)}
+        self.assertEqual(list(measure.lines_of(table, 0.2, 2)), [
+            "without workers: 200 ms, 2 clusters", "times that, by capacity and workers:", "capacity       1       2",
+            "      32    1.00    0.50", "      64    1.00    0.50", "     256    1.00    0.50", "take --workers 2 --capacity 32"])
+
     def test_the_words_that_sigc_refuses(self):
         done = ran("sigc-run", WATCH[0], f"{EXAMPLES}/wrong.flows")
         self.assertEqual((done.stderr, done.returncode), (f"error: {EXAMPLES}/wrong.flows:1: not an input\n", 4))
@@ -43,6 +64,20 @@ class OneRun(unittest.TestCase):
             self.assertEqual(ran("sigc-run", *sums, right).returncode, 0)
             done = ran("sigc-run", *sums, wrong)
         self.assertEqual((done.stdout, done.returncode), (f"{wrong}: line 2: wanted end: input B exhausted after 2 instants, got Y 22\n", 1))
+
+    def test_a_want_beside_a_watch(self):
+        with tempfile.TemporaryDirectory() as room:
+            right = written(room, "right.want", "Y 11\nY 22\nend: input B exhausted after 2 instants\n")
+            wrong = written(room, "wrong.want", "Y 11\nY 23\nend: input B exhausted after 2 instants\n")
+            words = (f"{EXAMPLES}/sum.sig", f"{EXAMPLES}/sum.flows", "--watch")
+            for claim, want, told, status in (
+                ("Y > A", right, f"{right}: as wanted\n", 0),
+                ("Y > A", wrong, f"{wrong}: line 2: wanted Y 23, got Y 22\n", 1),
+                ("Y < 20", right, "", 1),
+            ):
+                done = ran("sigc-run", *words, claim, "--want", want)
+                self.assertEqual((done.stdout, done.returncode), (told, status))
+                self.assertEqual(done.stderr, "" if told else "watch: `Y < 20` is false at instant 2\n")
 
 
 @needs_sigc

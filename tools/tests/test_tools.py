@@ -126,7 +126,7 @@ class Caret(unittest.TestCase):
 
     def test_a_place(self):
         shown = self.shown("process P =\n\tY := Q;\n", "error 2:7: unknown name Q\n", 1)
-        self.assertEqual(shown, "p.sig:2:7: error: unknown name Q\n    2 | \tY := Q;\n      | \t     ^\n      see docs/errors.md#unknown-name-x\n")
+        self.assertEqual(shown, "p.sig:2:7: error: unknown name Q\n    2 | \tY := Q;\n      | \t     ^\n      nothing defines Q: write its value where it stands, or let the process take it as an input or a parameter\n      see docs/errors.md#unknown-name-x\n")
 
     def test_a_program_without_a_place(self):
         self.assertIn("p.sig:1:1: error: no reaction is possible\n", self.shown("A", "error: no reaction is possible\n", 1))

@@ -219,6 +219,21 @@ class Waveforms(unittest.TestCase):
         self.assertEqual(len(shown), len(sigcflat.Expansion(sigclib.read_text(program)).signals))
 
     @needs_sigc
+    def test_states_by_their_names(self):
+        boiler = (f"{TUTORIAL}/boiler.sig", f"{TUTORIAL}/boiler.flows")
+        with tempfile.TemporaryDirectory() as room:
+            ran("trace2vcd", *boiler, "-o", f"{room}/b.vcd")
+            drawing, save = sigclib.read_text(f"{room}/b.vcd"), sigclib.read_text(f"{room}/b.gtkw")
+            trace = written(room, "b.trace", ran("sigc-trace", *boiler).stdout)
+            self.assertIn("\nsHEAT ", ran("trace2vcd", trace, "--program", boiler[0]).stdout)
+        code = re.search(r"\$var string 1 (\S+) STATE \$end", drawing)[1]
+        self.assertEqual(re.findall(rf"^s(\S+) {re.escape(code)}$", drawing, flags=re.M), ["REST", "HEAT", "REST", "HEAT", "BROKEN"])
+        self.assertIn("@820\nBOILER.STATE\n", save)
+        numbers = ran("trace2vcd", *boiler, "--states", "number").stdout
+        self.assertIn(f"$var integer 64 {code} STATE $end", numbers)
+        self.assertNotIn("\ns", numbers)
+
+    @needs_sigc
     def test_scopes_inside_one_another(self):
         program = "process P = (? integer A ! integer Y) Y := F(A);\nprocess F = (? integer X ! integer Z) Z := G(X);\nprocess G = (? integer U ! integer V) V := U;\n"
         with tempfile.TemporaryDirectory() as room:

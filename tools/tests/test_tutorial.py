@@ -1,4 +1,4 @@
-"""The programs of the tutorial, which stand in examples/tutorial too."""
+"""The programs of the tutorial: each that the page shows is a file of examples/tutorial, the wrong ones as NAME-1.sig, .."""
 import os
 import re
 import unittest
@@ -8,40 +8,44 @@ from calling import TOP, TUTORIAL, needs_sigc, ran, sigc
 import sigclib
 
 FENCE = re.compile(r"^```(?:signal|text) (\S+)\n(.*?)^```$", flags=re.M | re.S)
+NAMES = sorted(it for it in os.listdir(TUTORIAL) if it.endswith(".sig"))
+# What the page makes of others, by its commands.
+MADE = ["boiler.sig", "clusters.sig"]
+WRONG = [it for it in NAMES if re.search(r"-\d+\.sig$", it)]
 
 
 def fences():
-    """The last fence of each name in the tutorial."""
-    with open(f"{TOP}/docs/tutorial.md", encoding="utf-8") as it:
-        return dict(FENCE.findall(it.read()))
+    """The fences of the tutorial that have a name, in order."""
+    return FENCE.findall(sigclib.read_text(f"{TOP}/docs/tutorial.md"))
 
 
 class Tutorial(unittest.TestCase):
     def test_every_fence_is_a_file(self):
-        for name, text in fences().items():
+        for name, text in fences():
             with self.subTest(name):
-                behind = ran("sigc-automaton", f"{TUTORIAL}/modes.table").stdout if name == "boiler.sig" else ""
-                self.assertEqual(sigclib.read_text(f"{TUTORIAL}/{name}"), text + behind)
+                self.assertEqual(sigclib.read_text(f"{TUTORIAL}/{name}"), text)
 
-    def test_every_program_is_in_the_tutorial(self):
-        programs = [it for it in os.listdir(TUTORIAL) if it.endswith(".sig")]
-        self.assertEqual([it for it in programs if it not in fences()], [])
+    def test_every_program_is_shown_once(self):
+        shown = [name for name, _ in fences() if name.endswith(".sig")]
+        self.assertEqual(sorted([*shown, *MADE]), NAMES)
+
+    def test_the_boiler_is_its_controller_and_its_table(self):
+        behind = ran("sigc-automaton", f"{TUTORIAL}/modes.table").stdout
+        self.assertEqual(sigclib.read_text(f"{TUTORIAL}/boiler.sig"), sigclib.read_text(f"{TUTORIAL}/boiler-1.sig") + behind)
 
     @needs_sigc
-    def test_every_program_is_accepted_and_has_flows(self):
-        for name in sorted(os.listdir(TUTORIAL)):
-            if name.endswith(".sig"):
-                with self.subTest(name):
-                    self.assertEqual(sigc("check", f"{TUTORIAL}/{name}").stdout, "accepted\n")
-                    self.assertTrue(os.path.isfile(f"{TUTORIAL}/{name.removesuffix('.sig')}.flows"))
+    def test_wrong_programs_are_refused_and_the_others_have_flows(self):
+        for name in NAMES:
+            with self.subTest(name):
+                self.assertEqual(sigc("check", f"{TUTORIAL}/{name}").returncode, 1 if name in WRONG else 0)
+                self.assertEqual(os.path.isfile(f"{TUTORIAL}/{name.removesuffix('.sig')}.flows"), name not in WRONG)
 
     @needs_sigc
     def test_every_trace_is_accepted(self):
-        for name in sorted(os.listdir(TUTORIAL)):
-            if name.endswith(".trace"):
-                with self.subTest(name):
-                    program = f"{TUTORIAL}/{name.removesuffix('.trace')}.sig"
-                    self.assertEqual(sigc("judge", program, f"{TUTORIAL}/{name}").stdout, "accepted\n")
+        for name in sorted(it for it in os.listdir(TUTORIAL) if it.endswith(".trace") and it != "wrong.trace"):
+            with self.subTest(name):
+                program = f"{TUTORIAL}/{name.removesuffix('.trace')}.sig"
+                self.assertEqual(sigc("judge", program, f"{TUTORIAL}/{name}").stdout, "accepted\n")
 
 
 if __name__ == "__main__":

@@ -7,8 +7,10 @@ import unittest
 from helping import EXAMPLES, NEEDS_SIGC, program, ran
 
 import sigccause
+import sigcchange
 import sigcedit
 import sigchints
+import sigcleast
 import sigcloops
 import sigcmend
 import sigcread
@@ -92,10 +94,10 @@ class Reader(unittest.TestCase):
 
 class Least(unittest.TestCase):
     def test_the_least_part(self):
-        self.assertEqual(sigccause.least(20, lambda kept: {3, 7, 16} <= set(kept)), [3, 7, 16])
-        self.assertEqual(sigccause.least(20, lambda kept: True), [])
-        self.assertEqual(sigccause.least(3, lambda kept: len(kept) == 3), [0, 1, 2])
-        self.assertEqual(sigccause.least(0, lambda kept: True), [])
+        self.assertEqual(sigcleast.least(20, lambda kept: {3, 7, 16} <= set(kept)), [3, 7, 16])
+        self.assertEqual(sigcleast.least(20, lambda kept: True), [])
+        self.assertEqual(sigcleast.least(3, lambda kept: len(kept) == 3), [0, 1, 2])
+        self.assertEqual(sigcleast.least(0, lambda kept: True), [])
 
     def test_an_edit_between_two_texts(self):
         for old, new in [("abc", "abc"), ("abc", "axc"), ("aa", "aaa"), ("", "x"), ("x", ""), ("abab", "ab")]:
@@ -188,7 +190,7 @@ class Causes(unittest.TestCase):
     def test_two_inputs_that_are_merged(self):
         text = "process P = (? integer A; event B ! boolean C; integer Y)\n(| Y := A + 1\n | C := B default (false when ^A)\n |);\n"
         self.assertIn(" | A_COMES ^= B_COMES\n | A ^= when A_COMES\n | B ^= when B_COMES\n", self.mend(text).text)
-        self.assertIn("`A ^= when A_COMES`", sigchints.hint_of(text, sigcread.read(text), self.sigc.check(text)).lines[0])
+        self.assertIn("two boolean inputs that come together tell which does", sigchints.hint_of(text, sigcread.read(text), self.sigc.check(text)).lines[0])
 
     def test_events_that_are_all_asked(self):
         text = "process P = (? event A, B, C ! event E; integer N)\n(| N := ((ZN + 5) when A) default ((ZN + 10) when B) default ((ZN - 15) when E) default ZN\n | ZN := N $ init 0\n | E := C when (ZN >= 15)\n |)\nwhere integer ZN; end;\n"
@@ -213,6 +215,30 @@ class Causes(unittest.TestCase):
             self.assertEqual(self.mend(text).words, "the clock equation B ^= when PRESSED")
         text = "process C = (? boolean SENSED, PRESSED; integer POS; event B ! boolean KEPT)\n(| SENSED ^= PRESSED\n | POS ^= when SENSED\n | KEPT := B default (false when ^POS) default WAS\n | WAS := KEPT $ init false\n | KEPT ^= SENSED\n |)\nwhere boolean WAS; end;\n"
         self.assertEqual(self.mend(text).words, "the clock equation B ^= when PRESSED")
+
+    def test_a_mouse(self):
+        """One clock for both events is accepted, and makes what asks for a click constant: two booleans are meant."""
+        for outputs, equations, locals_ in [
+            ("boolean CLICKED", ["CLICKED := CLICK default (false when TICK)"], ""),
+            ("boolean CLICKED; integer N", ["CLICKED := (true when CLICK) default (false when TICK)", "N := ((N $ init 0) + 1) when CLICKED"], ""),
+            ("event CLICKED; integer N", ["N := (N $ init 0) + 1", "CLICKED := CLICK when (N > 3)", "M := TICK cell CLICK init true"], "where boolean M; end"),
+        ]:
+            text = f"process MOUSE = (? event TICK, CLICK ! {outputs})\n(| {' | '.join(equations)} |)\n{locals_};\n"
+            first, *others = sigcmend.mends_of(self.sigc, text, 6)
+            self.assertIn("| TICK_COMES ^= CLICK_COMES | TICK ^= when TICK_COMES | CLICK ^= when CLICK_COMES", first.text)
+            self.assertTrue(others)
+
+    def test_how_much_a_mend_leaves_to_change(self):
+        before = sigcread.read("process P = (? event A, B ! boolean Y)\n(| Y := A default (false when B) |);").processes[0]
+        mended = "process P = (? boolean C, D; event A, B ! boolean Y)\n(| Y := A default (false when B) | C ^= D | A ^= when C | B ^= when D |);"
+        self.assertEqual(sigcchange.change(self.sigc, mended, before), (0, 1, 1))
+        self.assertEqual(sigcchange.change(self.sigc, "process P = (? event A, B ! boolean Y)\n(| Y := A default (false when B) | A ^= B |);", before), (-1, 0, 0))
+        self.assertEqual([sigcchange.is_changing("boolean", it) for it in ([], ["true"] * 9, ["true", None], ["true", "false"])], [False, False, False, True])
+        self.assertEqual([sigcchange.is_changing("event", it) for it in (["true"] * 9, ["true", None])], [False, True])
+
+    def test_the_two_sides_of_a_counter(self):
+        text = "process P = (? event UP, DOWN ! integer N)\n(| N := ((N $ init 0) + 1 when UP) default ((N $ init 0) - 1 when DOWN) |);\n"
+        self.assertIn("| N ^= UP ^+ DOWN", self.mend(text).text)
 
     def test_three_roots(self):
         self.assertIsNone(self.sigc.check(self.mend("process P = (? integer A, B, C ! integer Y)\n(| Y := A |);\n").text))

@@ -1,0 +1,10 @@
+process HEATER = (? integer T ! boolean OFF)
+(| OFF := not HYSTERESIS{18, 21}(T) |)
+where
+  process HYSTERESIS = {integer LOW, HIGH} (? integer X ! boolean ON)
+  (| ON := (true when (X < LOW)) default (false when (X > HIGH)) default WAS
+   | WAS := ON $ init false
+   | ON ^= X
+   |)
+  where boolean WAS; end;
+end;

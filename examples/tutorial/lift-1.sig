@@ -1,0 +1,4 @@
+process LIFT = (? integer POS; event CALL ! boolean CALLED; integer FLOOR)
+(| FLOOR := POS / 100
+ | CALLED := CALL default (false when ^POS)
+ |);
