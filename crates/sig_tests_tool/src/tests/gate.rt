@@ -1,6 +1,6 @@
 //! Clusters that must run on threads of their own.
 
-use super::rows::Streams;
+use super::calls::Streams;
 use super::*;
 use sig_text::Wrote;
 use std::thread;
@@ -171,7 +171,7 @@ fn run_two<R: Threads + Wait + Sync + AllocGlobal, S: Sink>(
     out: &mut S,
     meeting: &Meeting,
 ) -> Result<(), Fail> {
-    let mut streams = call_of(rt.alloc(), TWO.as_bytes(), TWO_FLOWS.as_bytes())?;
+    let mut streams = call_of(rt.alloc(), TWO, TWO_FLOWS)?;
     run_over(rt, &mut streams, out, meeting)
 }
 
