@@ -2,15 +2,17 @@
 """waking.py [CASE..]: searches all schedules of threads that rest and wake each other, as those of sig_work do.
 
 A model of the protocol of docs/threads.md, one atomic step at a time: a thread that finds nothing to do announces in its
-bed for which link it rests, looks once more, and sleeps; who puts an item or takes one looks behind that step into the bed
-of the thread at the other end, notes where it rests there for that, and tells all that were noted when it finds nothing to
-do, behind its rounds, and at its end. Each step of the model is one access that the program makes with the order SeqCst, or
+bed for which link it rests, looks once more, and sleeps; who hands a chunk of items over or takes one looks behind that step
+into the bed of the thread at the other end, notes where it rests there for that, and tells all that were noted when it finds
+nothing to do, behind its rounds, and at its end. An actor goes on until a link refuses or it ends, and hands over then what
+its ends hold, as far as there is room. One may fail: then the others end where a link refuses. A thread is over where its
+actors have ended and hold nothing, or those of all threads have ended. Each step of the model is one access that the program makes with the order SeqCst, or
 the exchange by which a link's queue gives out a place, before which no later access is made. So what is searched are all
 interleavings of these steps; each must lead on until all actors have ended.
 
-The cases are small programs with links of one item on two and three threads, some of which serve several actors. Wrong
-protocols are searched too, and in each of them threads must be found that sleep for ever. It takes a minute; the last line
-is `N passed, M failed`.
+The cases are small programs with links of one chunk, of one item or two, on two and three threads, some of which serve
+several actors. Wrong protocols are searched too, and in each of them threads must be found that sleep for ever. It takes a
+minute; the last line is `N passed, M failed`.
 """
 import sys
 from typing import NamedTuple
@@ -22,8 +24,10 @@ MOST_STATES = 3_000_000
 class Case:
     """Actors, each a list of steps that put an item on a link or take one, done so many times, and the threads that serve them."""
 
-    def __init__(self, name, actors, threads, times=2, capacity=1):
-        self.name, self.actors, self.threads, self.times, self.capacity = name, actors, threads, times, capacity
+    def __init__(self, name, actors, threads, times=2, chunk=1, fails=None):
+        self.name, self.actors, self.threads, self.times, self.chunk = name, actors, threads, times, chunk
+        # the actor that fails, and behind how many steps
+        self.fails = fails
         self.links = 1 + max(link for steps in actors for _, link in steps)
         self.owner = {actor: number for number, served in enumerate(threads) for actor in served}
         self.end = {}
@@ -40,6 +44,15 @@ CASES = [
     Case("two actors on one thread", [[("put", 0)], [("put", 1)], [("take", 0), ("take", 1)]], [[0, 1], [2]]),
     Case("two on each", [[("put", 0)], [("take", 1)], [("take", 0)], [("put", 1)]], [[0, 1], [2, 3]]),
     Case("a link within a thread", [[("put", 0), ("put", 1)], [("take", 0), ("take", 2)], [("take", 1), ("put", 2)]], [[0, 1], [2]]),
+    Case("chunks on one link", [[("put", 0)], [("take", 0)]], [[0], [1]], 3, 2),
+    Case("chunks there and back", [[("put", 0), ("take", 1)], [("take", 0), ("put", 1)]], [[0], [1]], 2, 2),
+    Case("chunks on two links", [[("put", 0), ("put", 1)], [("take", 1), ("take", 0)]], [[0], [1]], 3, 2),
+    Case("chunks of two actors", [[("put", 0)], [("put", 1)], [("take", 0), ("take", 1)]], [[0, 1], [2]], 2, 2),
+    Case("chunks within a thread", [[("put", 0), ("put", 1)], [("take", 0), ("take", 2)], [("take", 1), ("put", 2)]], [[0, 1], [2]], 2, 2),
+    Case("an answer to what is held", [[("put", 0), ("put", 0), ("put", 0), ("take", 1)], [("take", 0), ("take", 0), ("take", 0), ("put", 1)]], [[0], [1]], 1, 2),
+    Case("a failure ends the reader", [[("put", 0)], [("take", 0), ("put", 1)], [("take", 1)]], [[0], [1], [2]], 2, 2, (1, 1)),
+    Case("a failure ends the writer", [[("put", 0)], [("take", 0)]], [[0], [1]], 4, 2, (0, 3)),
+    Case("many held, little room", [[("put", 0), ("put", 0), ("put", 0), ("take", 1)], [("take", 0), ("put", 1), ("take", 0), ("take", 0)]], [[0], [1]], 1, 2),
 ]
 # What a wrong protocol leaves out, or does at another place.
 WRONG = {
@@ -47,15 +60,41 @@ WRONG = {
     "a note before the step": {"note_first": True},
     "none is told before a rest": {"told_before_rest": False, "told_each_round": False},
     "none is told at the end": {"told_at_end": False, "told_each_round": False, "told_before_rest": False},
+    "what is held is kept": {"handed_over": False},
+    "one that holds items rests for its next link": {"rests_for_any": False},
+    "one that holds items is over": {"over_with_none": False},
+    "one that holds items is never over": {"over_with_all": False},
 }
-RIGHT = {"second_look": True, "note_first": False, "told_before_rest": True, "told_each_round": True, "told_at_end": True}
+RIGHT = {
+    "second_look": True,
+    "note_first": False,
+    "told_before_rest": True,
+    "told_each_round": True,
+    "told_at_end": True,
+    "handed_over": True,
+    "rests_for_any": True,
+    "over_with_none": True,
+    "over_with_all": True,
+}
+
+
+class Link(NamedTuple):
+    """The items that the end holds which puts, those of the chunk in the queue, which has room for one, and those that are
+    left of the chunk that was taken."""
+
+    held: int = 0
+    queued: int = 0
+    left: int = 0
 
 
 class World(NamedTuple):
     """What threads share, and where each of them stands."""
 
-    items: tuple
+    links: tuple
     steps: tuple
+    ended: tuple
+    failed: bool
+    left: int
     link: tuple
     owed: tuple
     owing: bool
@@ -71,9 +110,11 @@ class Thread(NamedTuple):
     place: int = 0
     moved: bool = False
     announced: bool = False
+    left: bool = False
     key: int = 0
     about: int = 0
     bed: int = 0
+    at: int = 0
     then: str = ""
 
 
@@ -90,37 +131,59 @@ class Model:
     def opening(self):
         case, count = self.case, len(self.case.threads)
         none, zero = (NONE,) * count, (0,) * count
-        threads = tuple(self.at_actor(number, Thread("round"), (0,) * len(case.actors)) for number in range(count))
-        return World((0,) * case.links, (0,) * len(case.actors), none, (False,) * count, False, zero, zero, threads)
+        threads = ()
+        actors = len(case.actors)
+        world = World((Link(),) * case.links, (0,) * actors, (False,) * actors, False, 0, none, (False,) * count, False, zero, zero, threads)
+        return world._replace(threads=tuple(self.at_actor(number, Thread("round"), world) for number in range(count)))
 
-    def has_ended(self, steps, actor):
-        return steps[actor] == self.case.times * len(self.case.actors[actor])
+    def has_ended(self, world, actor):
+        return world.ended[actor] or world.steps[actor] == self.case.times * len(self.case.actors[actor])
+
+    def holds(self, links, actor):
+        """A link of which the actor's end holds items."""
+        return next((link for how, link in self.case.actors[actor] if how == "put" and links[link].held), None)
+
+    def is_idle(self, world, actor):
+        """Whether the actor has ended and holds nothing."""
+        return self.has_ended(world, actor) and self.holds(world.links, actor) is None
+
+    def is_over(self, world, served):
+        """Whether a thread has nothing more to do of which all actors have ended."""
+        if not self.rules["over_with_none"] or all(self.is_idle(world, actor) for actor in served):
+            return True
+        return self.rules["over_with_all"] and world.left == len(self.case.threads)
 
     def next_of(self, steps, actor):
         plan = self.case.actors[actor]
         return plan[steps[actor] % len(plan)]
 
-    def at_actor(self, number, thread, steps):
-        """The thread before the turn of its next actor that has not ended, or behind its round."""
+    def at_actor(self, number, thread, world):
+        """The thread before the turn of its next actor that is not over, or behind its round."""
         served = self.case.threads[number]
         place = thread.place
-        while place < len(served) and self.has_ended(steps, served[place]):
+        while place < len(served) and self.is_idle(world, served[place]):
             place += 1
         if place < len(served):
-            return thread._replace(next="note early" if self.rules["note_first"] else "use", place=place)
-        if all(self.has_ended(steps, actor) for actor in served):
-            return thread._replace(next="tell" if self.rules["told_at_end"] else "over", then="over")
+            early = self.rules["note_first"] and not self.has_ended(world, served[place])
+            return thread._replace(next="note early" if early else "use", place=place)
+        if all(self.has_ended(world, actor) for actor in served):
+            # with chunks of one item none is ever held, and who has ended is of no matter
+            if not thread.left and self.case.chunk > 1:
+                return thread._replace(next="leave")
+            if self.is_over(world, served):
+                return thread._replace(next="tell" if self.rules["told_at_end"] else "over", then="over")
+            return thread._replace(next="tell" if self.rules["told_before_rest"] else "rest", then="rest")
         if thread.moved:
             then = thread._replace(next="leave bed" if thread.announced else "tell", then="round")
-            return then if thread.announced or self.rules["told_each_round"] else self.round(number, then, steps)
+            return then if thread.announced or self.rules["told_each_round"] else self.round(number, then, world)
         return thread._replace(next="tell" if self.rules["told_before_rest"] else "rest", then="rest")
 
-    def round(self, number, thread, steps):
-        return self.at_actor(number, thread._replace(place=0, moved=False), steps)
+    def round(self, number, thread, world):
+        return self.at_actor(number, thread._replace(place=0, moved=False), world)
 
-    def go_on(self, number, thread, steps):
+    def go_on(self, number, thread, world):
         """What comes behind a telling."""
-        return self.round(number, thread, steps) if thread.then == "round" else thread._replace(next=thread.then)
+        return self.round(number, thread, world) if thread.then == "round" else thread._replace(next=thread.then)
 
     def step(self, world, number):
         """The world behind the next step of a thread; None where that waits or is over."""
@@ -135,23 +198,77 @@ class Model:
     def over(self, world, number, thread):
         return world, thread
 
+    def leave(self, world, number, thread):
+        """All actors of the thread have ended: that is counted, and all rests end."""
+        return self.rouse(world._replace(left=world.left + 1), number, thread._replace(left=True, then="round"))
+
+    def rouse(self, world, number, thread):
+        epoch = tuple(it + (waiting > 0) for it, waiting in zip(world.epoch, world.waiters))
+        world = world._replace(epoch=epoch)
+        if thread.then == "hand over":
+            return world, self.behind_turn(number, thread, world)
+        return world, self.round(number, thread, world)
+
     # A turn of an actor.
 
     def use(self, world, number, thread):
         actor = self.case.threads[number][thread.place]
-        how, link = self.next_of(world.steps, actor)
-        held = world.items[link]
-        if not (held < self.case.capacity if how == "put" else held > 0):
-            return world, self.at_actor(number, thread._replace(place=thread.place + 1), world.steps)
-        other = self.case.end["take" if how == "put" else "put", link]
-        items = with_(world.items, link, held + (1 if how == "put" else -1))
-        world = world._replace(items=items, steps=with_(world.steps, actor, world.steps[actor] + 1))
-        thread = thread._replace(moved=True, bed=other, about=link)
-        return world, self.behind_note(world, number, thread) if self.rules["note_first"] else thread._replace(next="look into bed", then="turn")
+        if self.has_ended(world, actor):
+            return world, self.behind_turn(number, thread, world)
+        if self.case.fails == (actor, world.steps[actor]):
+            world = world._replace(ended=with_(world.ended, actor, True), failed=True)
+            return world, thread._replace(next="rouse", moved=True, then="hand over")
+        how, number_of_link = self.next_of(world.steps, actor)
+        link = world.links[number_of_link]
+        used = self.put(link) if how == "put" else self.take(link)
+        if used is None:
+            world = world._replace(ended=with_(world.ended, actor, world.failed))
+            return world, self.behind_turn(number, thread, world)
+        other = self.case.end["take" if how == "put" else "put", number_of_link]
+        links = with_(world.links, number_of_link, used)
+        world = world._replace(links=links, steps=with_(world.steps, actor, world.steps[actor] + 1))
+        thread = thread._replace(moved=True, bed=other, about=number_of_link, then="use")
+        if used.queued == link.queued or self.rules["note_first"]:
+            return world, self.behind_note(world, number, thread)
+        return world, thread._replace(next="look into bed")
+
+    def put(self, link):
+        """A link of which one item more is held, or handed over in a chunk; None where there is no room."""
+        if link.held + 1 < self.case.chunk:
+            return link._replace(held=link.held + 1)
+        return None if link.queued else link._replace(held=0, queued=link.held + 1)
+
+    def take(self, link):
+        """A link of which one item of a chunk is taken; None where there is none."""
+        if link.left:
+            return link._replace(left=link.left - 1)
+        return link._replace(queued=0, left=link.queued - 1) if link.queued else None
+
+    def behind_turn(self, number, thread, world):
+        """The thread before it hands over what the ends of its actor hold."""
+        if self.rules["handed_over"]:
+            return thread._replace(next="hand over", at=0, then="")
+        return self.at_actor(number, thread._replace(place=thread.place + 1, then=""), world)
+
+    def hand_over(self, world, number, thread):
+        actor = self.case.threads[number][thread.place]
+        while thread.at < self.case.links and not (self.puts(actor, thread.at) and world.links[thread.at].held):
+            thread = thread._replace(at=thread.at + 1)
+        if thread.at == self.case.links:
+            return world, self.at_actor(number, thread._replace(place=thread.place + 1, at=0, about=0, then=""), world)
+        about, link = thread.at, world.links[thread.at]
+        thread = thread._replace(at=about + 1)
+        if link.queued:
+            return world, thread
+        world = world._replace(links=with_(world.links, about, link._replace(held=0, queued=link.held)))
+        return world, thread._replace(next="look into bed", bed=self.case.end["take", about], about=about, then="hand over")
+
+    def puts(self, actor, link):
+        return ("put", link) in self.case.actors[actor]
 
     def note_early(self, world, number, thread):
         how, link = self.next_of(world.steps, self.case.threads[number][thread.place])
-        thread = thread._replace(bed=self.case.end["take" if how == "put" else "put", link], about=link, then="use")
+        thread = thread._replace(bed=self.case.end["take" if how == "put" else "put", link], about=link, then="use early")
         return self.look_into_bed(world, number, thread)
 
     def look_into_bed(self, world, number, thread):
@@ -167,15 +284,17 @@ class Model:
         return world, self.behind_note(world, number, thread)
 
     def behind_note(self, world, number, thread):
-        if thread.then == "use":
+        if thread.then == "use early":
             return thread._replace(next="use", then="", about=0)
-        return self.at_actor(number, thread._replace(place=thread.place + 1, about=0), world.steps)
+        if thread.then == "hand over":
+            return thread._replace(next="hand over", then="", about=0)
+        return self.at_actor(number, thread._replace(then="", about=0), world)
 
     # Telling.
 
     def tell(self, world, number, thread):
         if not world.owing:
-            return world, self.go_on(number, thread, world.steps)
+            return world, self.go_on(number, thread, world)
         return world, thread._replace(next="clear all", bed=0)
 
     def clear_all(self, world, number, thread):
@@ -201,13 +320,14 @@ class Model:
     def next_bed(self, world, number, thread):
         if thread.bed + 1 < len(world.owed):
             return thread._replace(next="look at owed", bed=thread.bed + 1)
-        return self.go_on(number, thread._replace(bed=0), world.steps)
+        return self.go_on(number, thread._replace(bed=0), world)
 
     # Resting.
 
     def announce(self, world, number, thread):
         served = self.case.threads[number]
-        link = ANY if len(served) > 1 else self.next_of(world.steps, served[0])[1]
+        holds = self.rules["rests_for_any"] and self.holds(world.links, served[0]) is not None
+        link = ANY if len(served) > 1 or holds else self.next_of(world.steps, served[0])[1]
         return world._replace(link=with_(world.link, number, link)), thread._replace(next="prepare")
 
     def prepare(self, world, number, thread):
@@ -215,7 +335,7 @@ class Model:
 
     def read_epoch(self, world, number, thread):
         thread = thread._replace(announced=True, key=world.epoch[number])
-        return world, self.round(number, thread, world.steps) if self.rules["second_look"] else thread._replace(next="sleep")
+        return world, self.round(number, thread, world) if self.rules["second_look"] else thread._replace(next="sleep")
 
     def sleep(self, world, number, thread):
         return world, thread._replace(next="leave bed", then="round")
@@ -228,7 +348,7 @@ class Model:
         thread = thread._replace(announced=False, key=0)
         if thread.moved and self.rules["told_each_round"]:
             return world, thread._replace(next="tell", then="round")
-        return world, self.round(number, thread, world.steps)
+        return world, self.round(number, thread, world)
 
 
 def stuck(case, rules):
@@ -251,7 +371,7 @@ def stuck(case, rules):
 
 def once(case):
     """The case with each actor's steps done once."""
-    return Case(case.name, case.actors, case.threads, 1, case.capacity)
+    return Case(case.name, case.actors, case.threads, 1 if case.fails is None else case.times, case.chunk, case.fails)
 
 
 def main():

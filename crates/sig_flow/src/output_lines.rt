@@ -1,6 +1,6 @@
 //! The lines of the outputs of an instant.
 
-ghost use Rattle.std.specs.Prelude.{◌≡◌, ◌≤◌, ◌+◌, ◌++◌};
+ghost use Rattle.std.specs.Prelude.{◌≡◌, ◌≤◌, ◌+◌, ◌++◌, IsTrue};
 ghost use Rattle.sig_flow.specs.Prelude.{[], length, IfOk, IfSome, line_of, sum_by};
 ghost use Rattle.sig_flow.specs.OutputLines.{longest_line, longest_lines};
 
@@ -44,6 +44,16 @@ impl OutputLines {
             bytes: zeros(alloc, size)?,
             start: size,
         })
+    }
+
+    /// Whether one line of each of these signals has room.
+    pub fn has_room_for(&self, signals: &[Signal]) -> bool
+        ensures { IsTrue result → longest_lines signals.now ≤ self.now.size }
+    {
+        match longest_lines(signals) {
+            Some(size) => size <= self.bytes.len(),
+            None => false,
+        }
     }
 
     /// Forgets all lines.

@@ -50,6 +50,17 @@ impl Halt {
         self.beds.pay();
     }
 
+    /// Notes that all actors of so many beds have ended, and ends all rests that were announced before.
+    pub fn leave(&self, beds: usize) {
+        self.beds.leave(beds.min(u32::MAX as usize) as u32);
+        self.beds.rouse();
+    }
+
+    /// Whether all actors of all beds have ended.
+    pub fn all_left(&self) -> bool {
+        self.beds.all_left()
+    }
+
     /// Ends all rests that were announced before. It is called behind all that may give any other thread
     /// something to do.
     pub fn wake(&self) {

@@ -66,6 +66,8 @@ pub(crate) struct Beds {
     numbered: Vec<CachePadded<Bed>>,
     /// Whether some bed is owed a word.
     owing: CachePadded<AtomicBool>,
+    /// How many of them are those of actors that have ended.
+    left: CachePadded<AtomicU32>,
 }
 
 impl Beds {
@@ -78,6 +80,7 @@ impl Beds {
             common: CachePadded::new(Bed::new(u32::MAX)),
             numbered,
             owing: CachePadded::new(AtomicBool::new(false)),
+            left: CachePadded::new(AtomicU32::new(0)),
         })
     }
 
@@ -118,6 +121,16 @@ impl Beds {
                 bed.pay();
             }
         }
+    }
+
+    /// Notes that the actors of so many more beds have ended.
+    pub(crate) fn leave(&self, count: u32) {
+        self.left.fetch_add(count, Ordering::SeqCst);
+    }
+
+    /// Whether those of all have.
+    pub(crate) fn all_left(&self) -> bool {
+        self.left.load(Ordering::SeqCst) as usize >= self.numbered.len()
     }
 
     /// Ends all rests.

@@ -1,4 +1,4 @@
-//! A link between two threads: a queue of 64-bit integers with one end that puts and one end that
+//! A link between two threads: a queue of items of one type with one end that puts and one end that
 //! takes. The rule that every step keeps is that what was sent is what was taken, followed by what
 //! the queue holds. It stands on sig_base, of which it takes `Full`, and on the kit's
 //! `crossbeam_queue` and `crossbeam_utils`.

@@ -30,7 +30,7 @@ impl From<AllocError> for LinkAnswer {
 
 /// An empty link that holds so many items at most, and its two ends. Only memory can be wanting; no
 /// later call on the link takes any.
-pub fn link(alloc: Global, capacity: u32) -> Result<(Put, Take), LinkAnswer>
+pub fn link<T: Drop>(alloc: Global, capacity: u32) -> Result<(Put<T>, Take<T>), LinkAnswer>
     requires { (1 ≤ capacity) × (capacity ≤ 65536) }
     ensures ends { IfOk result (λ ends. OfOneLink ends.0 ends.1 × (put_capacity ends.0 ≡ capacity)) }
     ensures room { IfOk result (λ ends. take_capacity ends.1 ≡ capacity) }

@@ -14,9 +14,9 @@ use std::sync::{Arc, Wait};
 
 /// The end of a link that puts. It may be moved to another thread.
 #[derive(Drop)]
-pub struct Put {
-    pub(crate) line: Arc<CachePadded<Line>, Global>,
-    pub(crate) pass: LinkPass,
+pub struct Put<T> {
+    pub(crate) line: Arc<CachePadded<Line<T>>, Global>,
+    pub(crate) pass: LinkPass<T>,
     /// How many calls found the link full, up to the greatest number.
     pub(crate) times_full: u64,
     ghost fits: { IsPassOf (padded_value (arc_value line)) pass },
@@ -24,7 +24,7 @@ pub struct Put {
     ghost sized: { ruled_capacity (padded_value (arc_value line)) ≤ 65536 },
 }
 
-impl Put {
+impl<T: Drop> Put<T> {
     ghost use Rattle.sig_link.specs.Ends.{put_capacity, sent, times_full, FoundFull, IsSamePut};
 
     /// How many items the link holds at most.
@@ -37,7 +37,7 @@ impl Put {
     /// Puts the item last of what was sent. `Full` comes only where the queue was full at a step of
     /// this call, which is counted; nothing else then changed. It may wait for the other end to end a
     /// step.
-    pub fn push<R: Wait>(&mut self, rt: &R, item: i64) -> Result<(), Full>
+    pub fn push<R: Wait>(&mut self, rt: &R, item: T) -> Result<(), Full>
         ensures end { IsSamePut self.old self.new }
         ensures ok { OnOk result (sent self.new ≡ sent self.old ++ item ∷ []) }
         ensures uncounted { OnOk result (times_full self.new ≡ times_full self.old) }

@@ -1,6 +1,6 @@
 //! The rule of a link's queue, and what each step of an end does to what that end knows.
 
-ghost use Rattle.std.specs.Prelude.{◌≡◌, true, false, [], ◌∷◌, ◌++◌, List, ℤ};
+ghost use Rattle.std.specs.Prelude.{◌≡◌, true, false, [], ◌∷◌, ◌++◌, List};
 ghost use Rattle.sig_link.specs.Rule.{hand};
 
 use crossbeam_queue::protocol::{Join, Lesson, Outcome, Protocol, Split};
@@ -8,17 +8,17 @@ use crossbeam_queue::{Pass, RuledArrayQueue};
 use std::collections::LinkedList;
 
 /// What an end may do, put or take, and the items that it put and took. No value of it is made.
-pub struct Hand {
+pub struct Hand<T> {
     pub puts: bool,
     pub takes: bool,
-    pub sent: LinkedList<i64>,
-    pub taken: LinkedList<i64>,
+    pub sent: LinkedList<T>,
+    pub taken: LinkedList<T>,
 }
 
 /// The rule: sent is taken, followed by the queue. The first hand may put and take.
 pub struct Order;
 
-impl Protocol<i64, Hand> for Order {
+impl<T> Protocol<T, Hand<T>> for Order {
     ghost use Rattle.std.specs.Prelude.{true, []};
     ghost use Rattle.sig_link.specs.Rule.{hand, InOrder};
 
@@ -28,15 +28,15 @@ impl Protocol<i64, Hand> for Order {
 }
 
 /// The queue of a link.
-pub type Line = RuledArrayQueue<i64, Hand, Order>;
+pub type Line<T> = RuledArrayQueue<T, Hand<T>, Order>;
 
 /// What one end carries.
-pub type LinkPass = Pass<i64, Hand>;
+pub type LinkPass<T> = Pass<T, Hand<T>>;
 
 /// The two ends of a new link: the first hand keeps the right to put, the second may take.
 pub struct TwoEnds;
 
-impl Split<Hand> for TwoEnds {
+impl<T> Split<Hand<T>> for TwoEnds {
     ghost use Rattle.std.specs.Prelude.{true, false, []};
     ghost use Rattle.sig_link.specs.Rule.{hand};
 
@@ -48,7 +48,7 @@ impl Split<Hand> for TwoEnds {
 /// The settling: one hand knows what was sent and what was taken, and the other is spent.
 pub struct OneHand;
 
-impl Join<Hand> for OneHand {
+impl<T> Join<Hand<T>> for OneHand {
     ghost use Rattle.std.specs.Prelude.{true, false, []};
     ghost use Rattle.sig_link.specs.Rule.{hand};
 
@@ -61,29 +61,29 @@ impl Join<Hand> for OneHand {
 /// what was taken in what was sent.
 pub struct Pushing;
 
-impl Outcome<i64, Hand> for Pushing {
+impl<T> Outcome<T, Hand<T>> for Pushing {
     ghost then = { λ h x after. after ≡ hand h.puts h.takes (h.sent ++ x ∷ []) h.taken };
 }
 
-impl Lesson<i64, Hand> for Pushing {
-    ghost fact = { λ h queue. (taken : List ℤ) × (h.sent ≡ taken ++ queue) };
+impl<T> Lesson<T, Hand<T>> for Pushing {
+    ghost fact = { λ h queue. (taken : List T) × (h.sent ≡ taken ++ queue) };
 }
 
 /// A pop: the item is last of what was taken. Where there is none, what the queue holds follows
 /// what was taken in what was sent.
 pub struct Popping;
 
-impl Outcome<i64, Hand> for Popping {
+impl<T> Outcome<T, Hand<T>> for Popping {
     ghost then = { λ h x after. after ≡ hand h.puts h.takes h.sent (h.taken ++ x ∷ []) };
 }
 
-impl Lesson<i64, Hand> for Popping {
-    ghost fact = { λ h queue. (sent : List ℤ) × (sent ≡ h.taken ++ queue) };
+impl<T> Lesson<T, Hand<T>> for Popping {
+    ghost fact = { λ h queue. (sent : List T) × (sent ≡ h.taken ++ queue) };
 }
 
 /// The settled link: what was sent is what was taken, followed by the queue.
 pub struct Whole;
 
-impl Lesson<i64, Hand> for Whole {
+impl<T> Lesson<T, Hand<T>> for Whole {
     ghost fact = { λ h queue. h.sent ≡ h.taken ++ queue };
 }

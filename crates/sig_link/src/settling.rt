@@ -15,7 +15,7 @@ pub struct Settled {
 }
 
 /// Ends the link. What was taken, followed by the items that are left, is what was sent.
-pub fn settle<R: Wait>(rt: &R, put: Put, take: Take) -> Settled
+pub fn settle<T: Drop, R: Wait>(rt: &R, put: Put<T>, take: Take<T>) -> Settled
     requires { OfOneLink put take }
     ensures { IsSettled put take result.left }
 {

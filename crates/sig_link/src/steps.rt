@@ -9,7 +9,12 @@ use sig_base::Full;
 use std::sync::Wait;
 
 /// A push: it finds room, or it finds the queue full and changes nothing.
-pub fn push_step<R: Wait>(rt: &R, line: &Line, pass: &mut LinkPass, item: i64) -> Result<(), Full>
+pub fn push_step<T: Drop, R: Wait>(
+    rt: &R,
+    line: &Line<T>,
+    pass: &mut LinkPass<T>,
+    item: T,
+) -> Result<(), Full>
     requires queue { IsPassOf line.now pass.old }
     requires end { (view pass.old).puts ≡ true }
     ensures queue { IsPassOf line.now pass.new × IsSameEnd pass.old pass.new }
@@ -24,7 +29,7 @@ pub fn push_step<R: Wait>(rt: &R, line: &Line, pass: &mut LinkPass, item: i64) -
 }
 
 /// A pop: it finds an item, or it finds the queue empty and changes nothing.
-pub fn pop_step<R: Wait>(rt: &R, line: &Line, pass: &mut LinkPass) -> Option<i64>
+pub fn pop_step<T, R: Wait>(rt: &R, line: &Line<T>, pass: &mut LinkPass<T>) -> Option<T>
     requires queue { IsPassOf line.now pass.old }
     requires end { (view pass.old).takes ≡ true }
     ensures queue { IsPassOf line.now pass.new × IsSameEnd pass.old pass.new }

@@ -13,9 +13,9 @@ use std::sync::{Arc, Wait};
 
 /// The end of a link that takes. It may be moved to another thread.
 #[derive(Drop)]
-pub struct Take {
-    pub(crate) line: Arc<CachePadded<Line>, Global>,
-    pub(crate) pass: LinkPass,
+pub struct Take<T> {
+    pub(crate) line: Arc<CachePadded<Line<T>>, Global>,
+    pub(crate) pass: LinkPass<T>,
     /// How many calls found the link empty, up to the greatest number.
     pub(crate) times_empty: u64,
     ghost fits: { IsPassOf (padded_value (arc_value line)) pass },
@@ -23,7 +23,7 @@ pub struct Take {
     ghost sized: { ruled_capacity (padded_value (arc_value line)) ≤ 65536 },
 }
 
-impl Take {
+impl<T: Drop> Take<T> {
     ghost use Rattle.sig_link.specs.Ends.{take_capacity, take_link, taken, times_empty, FoundEmpty};
 
     /// How many items the link holds at most.
@@ -36,7 +36,7 @@ impl Take {
     /// Takes the next item of what was sent. `None` comes only where the queue was empty at a step
     /// of this call, which is counted; nothing else then changed. It may wait for the other end to end
     /// a step.
-    pub fn pop<R: Wait>(&mut self, rt: &R) -> Option<i64>
+    pub fn pop<R: Wait>(&mut self, rt: &R) -> Option<T>
         ensures end { take_link self.new ≡ take_link self.old }
         ensures item { IfSome result (λ x. taken self.new ≡ taken self.old ++ x ∷ []) }
         ensures uncounted { IfSome result (λ x. times_empty self.new ≡ times_empty self.old) }

@@ -7,7 +7,7 @@ use sig_plan::{Code, Plan, StepKind};
 use sig_words::Settings;
 
 /// How many sums in an instant one of two threads must take off the other for each item that goes over a link there.
-const SUMS_AN_ITEM: u64 = 100;
+const SUMS_AN_ITEM: u64 = 80;
 
 /// How many sums take as long as one division.
 const SUMS_A_DIVISION: u64 = 6;

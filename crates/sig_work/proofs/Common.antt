@@ -17,9 +17,9 @@ pub use Rattle.sig_schedule_laws.proofs.Interleavings.{after_on}
 pub use Rattle.sig_schedule_laws.proofs.Texts.{text_is}
 pub use Rattle.sig_settling_laws.specs.OwnSteps.{IsOwn}
 pub use Rattle.sig_settling_laws.proofs.Common.{ActInOrder, AreBalanced, AreSettled, DoesStep, HasActed, HasEndedBy, HasTurned, IsLeastFailure, IsOwnStep, LeadBy, LookBehind, Own, acts, acts_then_looks, collector_of, commits_alone, opening_own, step_does, sum_by-cons, times_among}
-pub use Rattle.sig_link.specs.Ends.{FoundEmpty, FoundFull, IsSettled, OfOneLink, put_capacity, put_link, sent, take_link, taken}
-pub use Rattle.sig_link.specs.declared.put.Put.{Put}
-pub use Rattle.sig_link.specs.declared.take.Take.{Take}
+pub use Rattle.sig_chunk.specs.Ends.{FoundEmpty, FoundFull, IsSettled, OfOneLink, put_capacity, put_link, sent, take_link, taken}
+pub use Rattle.sig_chunk.specs.declared.inlet.Inlet.{Inlet}
+pub use Rattle.sig_chunk.specs.declared.outlet.Outlet.{Outlet}
 pub use Rattle.sig_halt.specs.Seats.{IsSameSeat, IsSeatOf, halt_parts, parts, recorded, seen}
 pub use Rattle.sig_halt.specs.declared.halt.Halt.{Halt}
 pub use Rattle.sig_halt.specs.declared.halt_seat.HaltSeat.{HaltSeat}
@@ -31,7 +31,7 @@ pub use Rattle.sig_step.specs.declared.answer.Acted.{Acted}
 pub use Rattle.sig_step.specs.declared.answer.Acted.TheVariants.{Done, Empty}
 pub use Rattle.sig_step.specs.declared.state.ClusterState.{ClusterState}
 pub use Rattle.sig_step.proofs.Common.{Acts, ActsOn, Asked, DoesSteps, IsSameActor, IsStateOf, Past, PastGoesOn, Queues, TookPrefix, actor_of, err_from_is_err_and, get_set_other, instant_of, length-map, place_of, same_Some, slice_get_read, to_z-of_z}
-pub use Rattle.sig_work.specs.Ends.{AreSameEnds, AreSameEnds-itself, HasEnds, HasFoundEmpty, HasFoundFull, HasNoEnds, has_put, has_take, past_of, puts_of, sent_by, sent_of, taken_by, taken_of, takes_of}
+pub use Rattle.sig_work.specs.Ends.{AreSameEnds, AreSameEnds-itself, HasEnds, HasFoundEmpty, HasFoundFull, HasNoEnds, HasPutAt, HaveHandedOver, has_put, has_take, past_of, puts_of, sent_by, sent_of, taken_by, taken_of, takes_of}
 pub use Rattle.sig_work.specs.Gathered.{AreAll, AreDealt, AreDone, AreLinked, AreTogether, BeginsTheRun, HoldFinished, IsEndOfRun, IsFresh, IsShareOf}
 pub use Rattle.sig_work.specs.Members.{EndsWith, HasActedAs, HasDone, IsBehindSeen, IsMember, IsSameMember, before_stop, commits_of, failure_in, is_collector, own_of, run_of, word_of}
 pub use Rattle.sig_work.specs.Running.{AreBegun, AreBegunInSome, AreKept, IsOfClusters, IsOfSomeClusters, IsOneOf, IsServedAs, IsUnfaulted, WereHalted, WereRun}

@@ -1,5 +1,5 @@
 -- Actors that were dealt to shares.
-use Rattle.sig_work.proofs.Common.{◌≡◌, ◌<◌, ◌≤◌, ◌+◌, ◌-◌, ◌*◌, ◌/◌, ◌%◌, ◌++◌, ◌∙◌, inl, inr, ℕ, zero, suc, ℤ, Bool, true, false, cond, List, [], ◌∷◌, length, refl, ap, sym, subst, arith, None, Option, Some, min, slice_get, sum_by, vec_capacity, ◌==◌, ◌||◌, eq-eqb, eqb-true, mod-eq_of_lt, mul_comm, length-append, sum_by-cons, sum_by_push, no_place, IsSeatOf, halt_parts, parts, recorded, seen, Halt, HaltSeat, OfOneLink, Put, Take, Actor, opening_actor, Given, Reaction, IsAccepted, PlanView, opening_own, IsStateOf, actor_of, place_of, ClusterState, same_Some, IsAmong, times, times_in, AreHandedFrom, AreJoined, AreNumbered, AreOpened, AreSeated, HasGiven, IsOpened, IsSameBare, share_for, HasEnds, HasNoEnds, sent_by, sent_of, taken_by, taken_of, AreDealt, IsFresh, IsShareOf, is_collector, EndsWith, HasDone, IsBehindSeen, IsMember, before_stop, commits_of, failure_in, own_of, word_of, AreServing, least_failed, Member, Share, slice_get_within, some_at, cases_eq}
+use Rattle.sig_work.proofs.Common.{◌≡◌, ◌<◌, ◌≤◌, ◌+◌, ◌-◌, ◌*◌, ◌/◌, ◌%◌, ◌++◌, ◌∙◌, inl, inr, ℕ, zero, suc, ℤ, Bool, true, false, cond, List, [], ◌∷◌, length, refl, ap, sym, subst, arith, None, Option, Some, min, slice_get, sum_by, vec_capacity, ◌==◌, ◌||◌, eq-eqb, eqb-true, mod-eq_of_lt, mul_comm, length-append, sum_by-cons, sum_by_push, no_place, IsSeatOf, halt_parts, parts, recorded, seen, Halt, HaltSeat, OfOneLink, Inlet, Outlet, Actor, opening_actor, Given, Reaction, IsAccepted, PlanView, opening_own, IsStateOf, actor_of, place_of, ClusterState, same_Some, IsAmong, times, times_in, AreHandedFrom, AreJoined, AreNumbered, AreOpened, AreSeated, HasGiven, IsOpened, IsSameBare, share_for, HasEnds, HasNoEnds, sent_by, sent_of, taken_by, taken_of, AreDealt, IsFresh, IsShareOf, is_collector, EndsWith, HasDone, IsBehindSeen, IsMember, before_stop, commits_of, failure_in, own_of, word_of, AreServing, least_failed, Member, Share, slice_get_within, some_at, cases_eq}
 use Rattle.sig_work.proofs.GivenMembers.{placed_here, seats_here, times_here, times_others}
 use Rattle.sig_work.proofs.WhatIsLeft.{same_sums}
 use Rattle.sig_work.proofs.ItemInPlace.{get_more}
@@ -51,12 +51,12 @@ joined_none plan flows limit count capacity members opened = record {
   );
   joined = λ link info below is. absurd (omega (arith, below));
 } where
-  sent_nothing : (o : Option (Option Put)) → ((put : Put) → o ≡ Some (Some put) → ⊥) → sent_by o ≡ []
+  sent_nothing : (o : Option (Option Inlet)) → ((put : Inlet) → o ≡ Some (Some put) → ⊥) → sent_by o ≡ []
   sent_nothing None none = refl
   sent_nothing (Some None) none = refl
   sent_nothing (Some (Some put)) none = absurd (none put refl)
 
-  taken_nothing : (o : Option (Option Take)) → ((take : Take) → o ≡ Some (Some take) → ⊥) → taken_by o ≡ []
+  taken_nothing : (o : Option (Option Outlet)) → ((take : Outlet) → o ≡ Some (Some take) → ⊥) → taken_by o ≡ []
   taken_nothing None none = refl
   taken_nothing (Some None) none = refl
   taken_nothing (Some (Some take)) none = absurd (none take refl)

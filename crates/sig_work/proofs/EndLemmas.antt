@@ -1,5 +1,5 @@
 -- The ends of an actor, with one of them changed.
-use Rattle.sig_work.proofs.Common.{◌≡◌, ◌<◌, ◌≤◌, ◌+◌, ◌++◌, inl, inr, ℕ, zero, suc, ℤ, Bool, true, false, cond, List, [], ◌∷◌, length, get_or, set, Result, Ok, Err, refl, ap, sym, subst, ◌∙◌, arith, Contains, IfNone, IfSome, None, OnErr, OnOk, Option, Some, slice_get, filter, range_with_len, length-set, put_capacity, put_link, sent, FoundEmpty, FoundFull, take_link, taken, Put, Take, Full, PastGoesOn, asked_to_pop, asked_to_push, AreSameEnds, HasFoundEmpty, HasFoundFull, has_put, has_take, past_of, puts_of, sent_by, sent_of, taken_by, taken_of, takes_of, LinkEnds, get_set_other, set_here, in_filter, contains_cons, contains_head, contains_later, contains_none, slice_get-get_or, slice_get_within, cases_eq}
+use Rattle.sig_work.proofs.Common.{◌≡◌, ◌<◌, ◌≤◌, ◌+◌, ◌++◌, inl, inr, ℕ, zero, suc, ℤ, Bool, true, false, cond, List, [], ◌∷◌, length, get_or, set, Result, Ok, Err, refl, ap, sym, subst, ◌∙◌, arith, Contains, IfNone, IfSome, None, OnErr, OnOk, Option, Some, slice_get, filter, range_with_len, length-set, put_capacity, put_link, sent, FoundEmpty, FoundFull, take_link, taken, Inlet, Outlet, Full, PastGoesOn, asked_to_pop, asked_to_push, AreSameEnds, HasFoundEmpty, HasFoundFull, HasPutAt, HaveHandedOver, has_put, has_take, past_of, puts_of, sent_by, sent_of, taken_by, taken_of, takes_of, LinkEnds, get_set_other, set_here, in_filter, contains_cons, contains_head, contains_later, contains_none, slice_get-get_or, slice_get_within, cases_eq}
 
 -- what a filter keeps
 of_filter : {A : Type 0} (p : A → Bool) (xs : List A) (x : A) → Contains (filter p xs) x → p x ≡ true
@@ -26,34 +26,34 @@ filter_alike p q m n same alike = filter_same p q (range_with_len 0 m) alike ∙
 
 -- ---- ends that are there
 
-some_put : (o : Option (Option Put)) → has_put o ≡ true → (put : Put) × (o ≡ Some (Some put))
+some_put : (o : Option (Option Inlet)) → has_put o ≡ true → (put : Inlet) × (o ≡ Some (Some put))
 some_put None is = absurd (let e : false ≡ true = is in cc)
 some_put (Some None) is = absurd (let e : false ≡ true = is in cc)
 some_put (Some (Some put)) is = (put, refl)
 
-some_take : (o : Option (Option Take)) → has_take o ≡ true → (take : Take) × (o ≡ Some (Some take))
+some_take : (o : Option (Option Outlet)) → has_take o ≡ true → (take : Outlet) × (o ≡ Some (Some take))
 some_take None is = absurd (let e : false ≡ true = is in cc)
 some_take (Some None) is = absurd (let e : false ≡ true = is in cc)
 some_take (Some (Some take)) is = (take, refl)
 
-pub put_there : (ends : LinkEnds) (link : ℕ) → Contains (puts_of ends) link → (put : Put) × (slice_get ends.puts.items link ≡ Some (Some put))
+pub put_there : (ends : LinkEnds) (link : ℕ) → Contains (puts_of ends) link → (put : Inlet) × (slice_get ends.puts.items link ≡ Some (Some put))
 put_there ends link there = some_put (slice_get ends.puts.items link) (of_filter (λ j. has_put (slice_get ends.puts.items j)) (range_with_len 0 (length ends.puts.items)) link there)
 
-pub take_there : (ends : LinkEnds) (link : ℕ) → Contains (takes_of ends) link → (take : Take) × (slice_get ends.takes.items link ≡ Some (Some take))
+pub take_there : (ends : LinkEnds) (link : ℕ) → Contains (takes_of ends) link → (take : Outlet) × (slice_get ends.takes.items link ≡ Some (Some take))
 take_there ends link there = some_take (slice_get ends.takes.items link) (of_filter (λ j. has_take (slice_get ends.takes.items j)) (range_with_len 0 (length ends.takes.items)) link there)
 
-pub there_put : (ends : LinkEnds) (link : ℕ) (put : Put) → slice_get ends.puts.items link ≡ Some (Some put) → Contains (puts_of ends) link
+pub there_put : (ends : LinkEnds) (link : ℕ) (put : Inlet) → slice_get ends.puts.items link ≡ Some (Some put) → Contains (puts_of ends) link
 there_put ends link put is =
     in_filter (λ j. has_put (slice_get ends.puts.items j)) (range_with_len 0 (length ends.puts.items)) link (in_range 0 (length ends.puts.items) link (omega arith) (let lt = slice_get_within ends.puts.items link (Some put) is in omega (arith, lt))) (ap has_put is)
 
-pub there_take : (ends : LinkEnds) (link : ℕ) (take : Take) → slice_get ends.takes.items link ≡ Some (Some take) → Contains (takes_of ends) link
+pub there_take : (ends : LinkEnds) (link : ℕ) (take : Outlet) → slice_get ends.takes.items link ≡ Some (Some take) → Contains (takes_of ends) link
 there_take ends link take is =
     in_filter (λ j. has_take (slice_get ends.takes.items j)) (range_with_len 0 (length ends.takes.items)) link (in_range 0 (length ends.takes.items) link (omega arith) (let lt = slice_get_within ends.takes.items link (Some take) is in omega (arith, lt))) (ap has_take is)
 
 -- ---- one end changed
 
-module _ (puts : List (Option Put)) (link : ℕ) (old new : Put) (at : slice_get puts link ≡ Some (Some old)) where
-  abbrev after : List (Option Put)
+module _ (puts : List (Option Inlet)) (link : ℕ) (old new : Inlet) (at : slice_get puts link ≡ Some (Some old)) where
+  abbrev after : List (Option Inlet)
   after = set puts link (Some new)
 
   at_link : slice_get after link ≡ Some (Some new)
@@ -75,8 +75,8 @@ module _ (puts : List (Option Put)) (link : ℕ) (old new : Put) (at : slice_get
         | inr apart ↦ ap has_put (get_set_other puts link j (Some new) apart)
       ])
 
-  pub put_same : put_link new ≡ put_link old → put_capacity new ≡ put_capacity old → (j : ℕ) (before : Put) → slice_get puts j ≡ Some (Some before)
-      → (p : Put) × (slice_get after j ≡ Some (Some p)) × (put_link p ≡ put_link before) × (put_capacity p ≡ put_capacity before)
+  pub put_same : put_link new ≡ put_link old → put_capacity new ≡ put_capacity old → (j : ℕ) (before : Inlet) → slice_get puts j ≡ Some (Some before)
+      → (p : Inlet) × (slice_get after j ≡ Some (Some p)) × (put_link p ≡ put_link before) × (put_capacity p ≡ put_capacity before)
   put_same same_link same_capacity j before is = elim (cases_eq j link) [
     | inl same ↦
         let e : Some (Some old) ≡ Some (Some before) = sym at ∙ ap (slice_get puts) (sym same) ∙ is in
@@ -85,8 +85,8 @@ module _ (puts : List (Option Put)) (link : ℕ) (old new : Put) (at : slice_get
     | inr apart ↦ (before, get_set_other puts link j (Some new) apart ∙ is, refl, refl)
   ]
 
-module _ (takes : List (Option Take)) (link : ℕ) (old new : Take) (at : slice_get takes link ≡ Some (Some old)) where
-  abbrev after_take : List (Option Take)
+module _ (takes : List (Option Outlet)) (link : ℕ) (old new : Outlet) (at : slice_get takes link ≡ Some (Some old)) where
+  abbrev after_take : List (Option Outlet)
   after_take = set takes link (Some new)
 
   at_take : slice_get after_take link ≡ Some (Some new)
@@ -108,8 +108,8 @@ module _ (takes : List (Option Take)) (link : ℕ) (old new : Take) (at : slice_
         | inr apart ↦ ap has_take (get_set_other takes link j (Some new) apart)
       ])
 
-  pub take_same : take_link new ≡ take_link old → (j : ℕ) (before : Take) → slice_get takes j ≡ Some (Some before)
-      → (p : Take) × (slice_get after_take j ≡ Some (Some p)) × (take_link p ≡ take_link before)
+  pub take_same : take_link new ≡ take_link old → (j : ℕ) (before : Outlet) → slice_get takes j ≡ Some (Some before)
+      → (p : Outlet) × (slice_get after_take j ≡ Some (Some p)) × (take_link p ≡ take_link before)
   take_same same_link j before is = elim (cases_eq j link) [
     | inl same ↦
         let e : Some (Some old) ≡ Some (Some before) = sym at ∙ ap (slice_get takes) (sym same) ∙ is in
@@ -120,28 +120,33 @@ module _ (takes : List (Option Take)) (link : ℕ) (old new : Take) (at : slice_
 
 -- ---- what a call leaves of the past
 
-place_is : {A : Type 0} (items : List A) (link : ℕ) (o x : A) → link < length items → o ≡ get_or items link o → o ≡ x → slice_get items link ≡ Some x
+pub place_is : {A : Type 0} (items : List A) (link : ℕ) (o x : A) → link < length items → o ≡ get_or items link o → o ≡ x → slice_get items link ≡ Some x
 place_is {A} items link o x lt value is = slice_get-get_or items link o lt ∙ ap Some (sym value ∙ is)
 
-pub put_is : (ends : LinkEnds) (link : ℕ) (o : Option Put) (put : Put) → Contains (puts_of ends) link → o ≡ get_or ends.puts.items link o → o ≡ Some put → slice_get ends.puts.items link ≡ Some (Some put)
+pub put_at_is : (ends : LinkEnds) (link : ℕ) (o : Option Inlet) (put : Inlet) → HasPutAt ends link → o ≡ get_or ends.puts.items link o → o ≡ Some put → slice_get ends.puts.items link ≡ Some (Some put)
+put_at_is ends link o put found value is = place_is ends.puts.items link o (Some put) (slice_get_within ends.puts.items link (Some found.0) found.1) value is
+
+pub put_is : (ends : LinkEnds) (link : ℕ) (o : Option Inlet) (put : Inlet) → Contains (puts_of ends) link → o ≡ get_or ends.puts.items link o → o ≡ Some put → slice_get ends.puts.items link ≡ Some (Some put)
 put_is ends link o put there value is =
     let found = put_there ends link there in
     place_is ends.puts.items link o (Some put) (slice_get_within ends.puts.items link (Some found.0) found.1) value is
 
-pub take_is : (ends : LinkEnds) (link : ℕ) (o : Option Take) (take : Take) → Contains (takes_of ends) link → o ≡ get_or ends.takes.items link o → o ≡ Some take → slice_get ends.takes.items link ≡ Some (Some take)
+pub take_is : (ends : LinkEnds) (link : ℕ) (o : Option Outlet) (take : Outlet) → Contains (takes_of ends) link → o ≡ get_or ends.takes.items link o → o ≡ Some take → slice_get ends.takes.items link ≡ Some (Some take)
 take_is ends link o take there value is =
     let found = take_there ends link there in
     place_is ends.takes.items link o (Some take) (slice_get_within ends.takes.items link (Some found.0) found.1) value is
 
-pub put_never_none : (ends : LinkEnds) (link : ℕ) (o : Option Put) → Contains (puts_of ends) link → o ≡ get_or ends.puts.items link o → o ≡ None → ⊥
-put_never_none ends link o there value none =
-    let found = put_there ends link there in
+pub put_there_never_none : (ends : LinkEnds) (link : ℕ) (o : Option Inlet) → HasPutAt ends link → o ≡ get_or ends.puts.items link o → o ≡ None → ⊥
+put_there_never_none ends link o found value none =
     let e : Some (Some found.0) ≡ Some o = sym found.1 ∙ place_is ends.puts.items link o o (slice_get_within ends.puts.items link (Some found.0) found.1) value refl in
     let f : Some found.0 ≡ o = cc in
     let g : Some found.0 ≡ None = f ∙ none in
     cc
 
-pub take_never_none : (ends : LinkEnds) (link : ℕ) (o : Option Take) → Contains (takes_of ends) link → o ≡ get_or ends.takes.items link o → o ≡ None → ⊥
+pub put_never_none : (ends : LinkEnds) (link : ℕ) (o : Option Inlet) → Contains (puts_of ends) link → o ≡ get_or ends.puts.items link o → o ≡ None → ⊥
+put_never_none ends link o there value none = put_there_never_none ends link o (put_there ends link there) value none
+
+pub take_never_none : (ends : LinkEnds) (link : ℕ) (o : Option Outlet) → Contains (takes_of ends) link → o ≡ get_or ends.takes.items link o → o ≡ None → ⊥
 take_never_none ends link o there value none =
     let found = take_there ends link there in
     let e : Some (Some found.0) ≡ Some o = sym found.1 ∙ place_is ends.takes.items link o o (slice_get_within ends.takes.items link (Some found.0) found.1) value refl in
@@ -149,9 +154,9 @@ take_never_none ends link o there value none =
     let g : Some found.0 ≡ None = f ∙ none in
     cc
 
-module _ (ends later : LinkEnds) (link : ℕ) (old new : Put) (at : slice_get ends.puts.items link ≡ Some (Some old)) (puts_are : later.puts.items ≡ set ends.puts.items link (Some new)) (takes_are : later.takes ≡ ends.takes) where
+module _ (ends later : LinkEnds) (link : ℕ) (old new : Inlet) (at : slice_get ends.puts.items link ≡ Some (Some old)) (puts_are : later.puts.items ≡ set ends.puts.items link (Some new)) (takes_are : later.takes ≡ ends.takes) where
   sent_at : (j : ℕ) → sent_of later j ≡ sent_by (slice_get (set ends.puts.items link (Some new)) j)
-  sent_at j = ap (λ (xs : List (Option Put)). sent_by (slice_get xs j)) puts_are
+  sent_at j = ap (λ (xs : List (Option Inlet)). sent_by (slice_get xs j)) puts_are
 
   taken_at : (j : ℕ) → taken_of later j ≡ taken_of ends j
   taken_at j = ap (λ ts. taken_by (slice_get ts.items j)) takes_are
@@ -162,32 +167,42 @@ module _ (ends later : LinkEnds) (link : ℕ) (old new : Put) (at : slice_get en
   other_stays : (j : ℕ) → ((j ≡ link) → ⊥) → past_of later j ≡ past_of ends j
   other_stays j apart = past_at j (sent_of ends j) (sent_at j ∙ put_sent ends.puts.items link old new at j apart)
 
+  past_stays : sent new ≡ sent old → (j : ℕ) → past_of later j ≡ past_of ends j
+  past_stays same j = elim (cases_eq j link) [
+    | inl is ↦ subst (λ i. past_of later i ≡ past_of ends i) (sym is) (past_at link (sent_of ends link) (sent_at link ∙ put_sends ends.puts.items link old new at ∙ same ∙ sym (put_had ends.puts.items link old new at)))
+    | inr apart ↦ other_stays j apart
+  ]
+
   pub asked_push : {U : Type 0} (item : ℤ) (result : Result U Full) → OnOk result (sent new ≡ sent old ++ item ∷ []) → OnErr result (sent new ≡ sent old) → PastGoesOn (asked_to_push link item result) (past_of ends) (past_of later)
   asked_push {U} item (Ok done) more same = (
     past_at link (sent_of ends link ++ item ∷ []) (sent_at link ∙ put_sends ends.puts.items link old new at ∙ more ∙ ap (λ (xs : List ℤ). xs ++ item ∷ []) (sym (put_had ends.puts.items link old new at))),
     λ j apart. other_stays j apart,
   )
-  asked_push {U} item (Err full) more same = λ j. elim (cases_eq j link) [
-    | inl is ↦ subst (λ i. past_of later i ≡ past_of ends i) (sym is) (past_at link (sent_of ends link) (sent_at link ∙ put_sends ends.puts.items link old new at ∙ same ∙ sym (put_had ends.puts.items link old new at)))
-    | inr apart ↦ other_stays j apart
-  ]
+  asked_push {U} item (Err full) more same = past_stays same
 
   pub pushed_ends : put_link new ≡ put_link old → put_capacity new ≡ put_capacity old → AreSameEnds ends later
   pushed_ends same_link same_capacity = record {
-    puts = ap (λ (xs : List (Option Put)). length xs) puts_are ∙ length-set ends.puts.items link (Some new);
+    puts = ap (λ (xs : List (Option Inlet)). length xs) puts_are ∙ length-set ends.puts.items link (Some new);
     takes = ap (λ ts. length ts.items) takes_are;
     put = λ j before is.
         let p = put_same ends.puts.items link old new at same_link same_capacity j before is in
-        (p.0, ap (λ (xs : List (Option Put)). slice_get xs j) puts_are ∙ p.1, p.2, p.3);
+        (p.0, ap (λ (xs : List (Option Inlet)). slice_get xs j) puts_are ∙ p.1, p.2, p.3);
     take = λ j before is. (before, ap (λ ts. slice_get ts.items j) takes_are ∙ is, refl);
   }
 
-  pub pushed_puts : puts_of later ≡ puts_of ends
-  pushed_puts = ap (λ (xs : List (Option Put)). filter (λ j. has_put (slice_get xs j)) (range_with_len 0 (length xs))) puts_are ∙ puts_stay ends.puts.items link old new at
+  -- what was sent stays
+  pub handed_over : put_link new ≡ put_link old → put_capacity new ≡ put_capacity old → sent new ≡ sent old → HaveHandedOver ends later
+  handed_over same_link same_capacity same_sent = record {
+    same = pushed_ends same_link same_capacity;
+    past = past_stays same_sent;
+  }
 
-module _ (ends later : LinkEnds) (link : ℕ) (old new : Take) (at : slice_get ends.takes.items link ≡ Some (Some old)) (takes_are : later.takes.items ≡ set ends.takes.items link (Some new)) (puts_are : later.puts ≡ ends.puts) where
+  pub pushed_puts : puts_of later ≡ puts_of ends
+  pushed_puts = ap (λ (xs : List (Option Inlet)). filter (λ j. has_put (slice_get xs j)) (range_with_len 0 (length xs))) puts_are ∙ puts_stay ends.puts.items link old new at
+
+module _ (ends later : LinkEnds) (link : ℕ) (old new : Outlet) (at : slice_get ends.takes.items link ≡ Some (Some old)) (takes_are : later.takes.items ≡ set ends.takes.items link (Some new)) (puts_are : later.puts ≡ ends.puts) where
   taken_there : (j : ℕ) → taken_of later j ≡ taken_by (slice_get (set ends.takes.items link (Some new)) j)
-  taken_there j = ap (λ (xs : List (Option Take)). taken_by (slice_get xs j)) takes_are
+  taken_there j = ap (λ (xs : List (Option Outlet)). taken_by (slice_get xs j)) takes_are
 
   sent_there : (j : ℕ) → sent_of later j ≡ sent_of ends j
   sent_there j = ap (λ ps. sent_by (slice_get ps.items j)) puts_are
@@ -211,34 +226,34 @@ module _ (ends later : LinkEnds) (link : ℕ) (old new : Take) (at : slice_get e
   pub popped_ends : take_link new ≡ take_link old → AreSameEnds ends later
   popped_ends same_link = record {
     puts = ap (λ ps. length ps.items) puts_are;
-    takes = ap (λ (xs : List (Option Take)). length xs) takes_are ∙ length-set ends.takes.items link (Some new);
+    takes = ap (λ (xs : List (Option Outlet)). length xs) takes_are ∙ length-set ends.takes.items link (Some new);
     put = λ j before is. (before, ap (λ ps. slice_get ps.items j) puts_are ∙ is, refl, refl);
     take = λ j before is.
         let p = take_same ends.takes.items link old new at same_link j before is in
-        (p.0, ap (λ (xs : List (Option Take)). slice_get xs j) takes_are ∙ p.1, p.2);
+        (p.0, ap (λ (xs : List (Option Outlet)). slice_get xs j) takes_are ∙ p.1, p.2);
   }
 
   pub popped_takes : takes_of later ≡ takes_of ends
-  popped_takes = ap (λ (xs : List (Option Take)). filter (λ j. has_take (slice_get xs j)) (range_with_len 0 (length xs))) takes_are ∙ takes_stay ends.takes.items link old new at
+  popped_takes = ap (λ (xs : List (Option Outlet)). filter (λ j. has_take (slice_get xs j)) (range_with_len 0 (length xs))) takes_are ∙ takes_stay ends.takes.items link old new at
 
 -- ---- a link that was found full, or empty
 
-pub full_stays : {U : Type 0} (result : Result U Full) (old new : Put) → OnErr result (FoundFull old new) → OnErr result (sent new ≡ sent old)
+pub full_stays : {U : Type 0} (result : Result U Full) (old new : Inlet) → OnErr result (FoundFull old new) → OnErr result (sent new ≡ sent old)
 full_stays {U} (Ok done) old new found = tt
 full_stays {U} (Err full) old new found = found.stays
 
-pub empty_stays : (o : Option ℤ) (old new : Take) → IfNone o (FoundEmpty old new) → IfNone o (taken new ≡ taken old)
+pub empty_stays : (o : Option ℤ) (old new : Outlet) → IfNone o (FoundEmpty old new) → IfNone o (taken new ≡ taken old)
 empty_stays (Some x) old new found = tt
 empty_stays None old new found = found.stays
 
-pub found_full_here : {U : Type 0} (result : Result U Full) (ends later : LinkEnds) (link : ℕ) (old new : Put) → slice_get ends.puts.items link ≡ Some (Some old) → later.puts.items ≡ set ends.puts.items link (Some new)
+pub found_full_here : {U : Type 0} (result : Result U Full) (ends later : LinkEnds) (link : ℕ) (old new : Inlet) → slice_get ends.puts.items link ≡ Some (Some old) → later.puts.items ≡ set ends.puts.items link (Some new)
     → OnErr result (FoundFull old new) → OnErr result (HasFoundFull link ends later)
 found_full_here {U} (Ok done) ends later link old new at puts_are found = tt
 found_full_here {U} (Err full) ends later link old new at puts_are found =
-    record { before = old; after = new; was = at; is = ap (λ (xs : List (Option Put)). slice_get xs link) puts_are ∙ set_here ends.puts.items link (Some new) (Some old) at; found = found }
+    record { before = old; after = new; was = at; is = ap (λ (xs : List (Option Inlet)). slice_get xs link) puts_are ∙ set_here ends.puts.items link (Some new) (Some old) at; found = found }
 
-pub found_empty_here : (o : Option ℤ) (ends later : LinkEnds) (link : ℕ) (old new : Take) → slice_get ends.takes.items link ≡ Some (Some old) → later.takes.items ≡ set ends.takes.items link (Some new)
+pub found_empty_here : (o : Option ℤ) (ends later : LinkEnds) (link : ℕ) (old new : Outlet) → slice_get ends.takes.items link ≡ Some (Some old) → later.takes.items ≡ set ends.takes.items link (Some new)
     → IfNone o (FoundEmpty old new) → IfNone o (HasFoundEmpty link ends later)
 found_empty_here (Some x) ends later link old new at takes_are found = tt
 found_empty_here None ends later link old new at takes_are found =
-    record { before = old; after = new; was = at; is = ap (λ (xs : List (Option Take)). slice_get xs link) takes_are ∙ set_here ends.takes.items link (Some new) (Some old) at; found = found }
+    record { before = old; after = new; was = at; is = ap (λ (xs : List (Option Outlet)). slice_get xs link) takes_are ∙ set_here ends.takes.items link (Some new) (Some old) at; found = found }

@@ -1,9 +1,9 @@
 -- Members that get the ends of links.
-use Rattle.sig_work.proofs.Common.{◌≡◌, ◌<◌, ◌+◌, ◌∙◌, inl, inr, ℕ, List, [], length, set, refl, ap, sym, subst, arith, Some, slice_get, length-set, OfOneLink, put_capacity, sent, taken, Put, Take, LinkInfo, same_Some, AreJoined, HasGivenPut, HasGivenTake, IsJoinedLink, IsSameBare, sent_by, taken_by, But, Each, IsLeftMember, Member, slice_get_within, some_at, cases_eq, set_here}
+use Rattle.sig_work.proofs.Common.{◌≡◌, ◌<◌, ◌+◌, ◌∙◌, inl, inr, ℕ, List, [], length, set, refl, ap, sym, subst, arith, Some, slice_get, length-set, OfOneLink, put_capacity, sent, taken, Inlet, Outlet, LinkInfo, same_Some, AreJoined, HasGivenPut, HasGivenTake, IsJoinedLink, IsSameBare, sent_by, taken_by, But, Each, IsLeftMember, Member, slice_get_within, some_at, cases_eq, set_here}
 use Rattle.sig_work.proofs.ItemInPlace.{set_apart}
 
 module _ (members : List Member) (k link : ℕ) where
-  pub given_put : (put : Put) (old new : Member) → slice_get members k ≡ Some old → IsLeftMember (But link) Each old new → slice_get new.ends.puts.items link ≡ Some (Some put)
+  pub given_put : (put : Inlet) (old new : Member) → slice_get members k ≡ Some old → IsLeftMember (But link) Each old new → slice_get new.ends.puts.items link ≡ Some (Some put)
       → HasGivenPut members (set members k new) k link put
   given_put put old new at left is = record {
     count = length-set members k new;
@@ -16,7 +16,7 @@ module _ (members : List Member) (k link : ℕ) where
     );
   }
 
-  pub given_take : (take : Take) (old new : Member) → slice_get members k ≡ Some old → IsLeftMember Each (But link) old new → slice_get new.ends.takes.items link ≡ Some (Some take)
+  pub given_take : (take : Outlet) (old new : Member) → slice_get members k ≡ Some old → IsLeftMember Each (But link) old new → slice_get new.ends.takes.items link ≡ Some (Some take)
       → HasGivenTake members (set members k new) k link take
   given_take take old new at left is = record {
     count = length-set members k new;
@@ -31,7 +31,7 @@ module _ (members : List Member) (k link : ℕ) where
 
 -- a member that got an empty end has no item still
 module _ (links : ℕ) (b m n : Member) (link : ℕ) (bare : IsSameBare links b m) where
-  bare_put : IsLeftMember (But link) Each m n → (put : Put) → slice_get n.ends.puts.items link ≡ Some (Some put) → sent put ≡ [] → IsSameBare links b n
+  bare_put : IsLeftMember (But link) Each m n → (put : Inlet) → slice_get n.ends.puts.items link ≡ Some (Some put) → sent put ≡ [] → IsSameBare links b n
   bare_put left put is none = record {
     number = left.number ∙ bare.number;
     state = left.state ∙ bare.state;
@@ -45,7 +45,7 @@ module _ (links : ℕ) (b m n : Member) (link : ℕ) (bare : IsSameBare links b 
     taken_none = λ j. ap taken_by (left.ends.takes j tt) ∙ bare.taken_none j;
   }
 
-  bare_take : IsLeftMember Each (But link) m n → (take : Take) → slice_get n.ends.takes.items link ≡ Some (Some take) → taken take ≡ [] → IsSameBare links b n
+  bare_take : IsLeftMember Each (But link) m n → (take : Outlet) → slice_get n.ends.takes.items link ≡ Some (Some take) → taken take ≡ [] → IsSameBare links b n
   bare_take left take is none = record {
     number = left.number ∙ bare.number;
     state = left.state ∙ bare.state;
@@ -84,7 +84,7 @@ module _ (links : List LinkInfo) (capacity n : ℕ) (old now : List Member) (joi
       subst (λ (x : Member). n < length x.ends.takes.items) same (omega (arith, takes, lt))
 
   -- also once the first end was given
-  pub take_room : (mid : List Member) (put : Put) → HasGivenPut now mid info.writer n put → (m : Member) → slice_get mid info.reader ≡ Some m → n < length m.ends.takes.items
+  pub take_room : (mid : List Member) (put : Inlet) → HasGivenPut now mid info.writer n put → (m : Member) → slice_get mid info.reader ≡ Some m → n < length m.ends.takes.items
   take_room mid put gave m is = elim (cases_eq info.reader info.writer) [
     | inl same ↦
         let more = gave.count in
@@ -101,7 +101,7 @@ module _ (links : List LinkInfo) (capacity n : ℕ) (old now : List Member) (joi
 -- ---- one link more
 
 module _ (links : List LinkInfo) (capacity n : ℕ) (old now mid new : List Member) (joined : AreJoined links capacity n old now) (info : LinkInfo) (at : slice_get links n ≡ Some info)
-    (put : Put) (take : Take) (one : OfOneLink put take) (capacity_is : put_capacity put ≡ capacity) (none_sent : sent put ≡ []) (none_taken : taken take ≡ [])
+    (put : Inlet) (take : Outlet) (one : OfOneLink put take) (capacity_is : put_capacity put ≡ capacity) (none_sent : sent put ≡ []) (none_taken : taken take ≡ [])
     (gave_put : HasGivenPut now mid info.writer n put) (gave_take : HasGivenTake mid new info.reader n take) (writes : info.writer < length now) (reads : info.reader < length mid) where
   same_ends : (P Q : ℕ → Type 0) (m : Member) → IsLeftMember P Q m m
   same_ends P Q m = record { number = refl; state = refl; ending = refl; ends = record { puts_count = refl; takes_count = refl; puts = λ link is. refl; takes = λ link is. refl } }

@@ -15,6 +15,7 @@ pub mod WhatIsLeft
 pub mod LiftedShares
 pub mod NamedCause
 pub mod OwnActs
+pub mod HandedOver
 pub mod OwnTurns
 pub mod ItemInPlace
 pub mod Served
@@ -39,6 +40,7 @@ pub use LiftedShares.*
 pub use NamedCause.*
 pub use OneMoreThread.*
 pub use OwnActs.*
+pub use HandedOver.*
 pub use Served.*
 pub use Singles.*
 pub use Stopped.*

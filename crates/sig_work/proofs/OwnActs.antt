@@ -1,5 +1,6 @@
 -- What a step of a member leaves is what its own steps leave.
 use Rattle.sig_work.proofs.Common.{◌≡◌, ◌<◌, ◌≤◌, ◌+◌, ◌++◌, ◌∙◌, inl, inr, ℕ, zero, suc, ℤ, true, false, cond, List, [], ◌∷◌, length, refl, ap, sym, subst, None, Option, Some, nat_lt, slice_get, eq-eqb, Place, Actor, code_of, ended_at, next_place, position_of, Given, Commits, Fails, Goes, Puts, Reaction, Stopped, Takes, Turn, turn, turn_at, IsAccepted, PlanView, HasTurned, IsOwn, Own, Acts, MayUse, ActsOn, DoesSteps, AllStay, Asked, LinkPast, OthersStay, Past, PastGoesOn, Queues, IsSameActor, IsStateOf, actor_of, last_reaction, place_of, Acted, Done, ClusterState, AreSameEnds, AreSameEnds-itself, HasEnds, past_of, puts_of, sent_of, taken_of, takes_of, EndsWith, HasActedAs, HasDone, IsMember, before_stop, failure_in, own_of, LinkEnds, Ending, Failed, AtLimit as EndedAtLimit, Member, cases_eq}
+use Rattle.sig_flow.specs.OutputLines.{LinesInFront}
 use Rattle.sig_model.specs.Turns.{AtLimit}
 use Rattle.sig_step.specs.GoingOn.{DoesStep}
 use Rattle.sig_work.proofs.WhatStays.{same_ends_then}
@@ -20,13 +21,13 @@ has_ends plan capacity k old new has same = record {
       (now.0, now.1);
 }
 
-module _ (given : Given) (accepted : IsAccepted given.plan) (number passed : ℕ) (s t : ClusterState) (e f : LinkEnds) (committed : List Reaction)
+module _ (given : Given) (accepted : IsAccepted given.plan) (number passed : ℕ) (s t : ClusterState) (e f : LinkEnds) (lines : LinesInFront) (committed : List Reaction)
     (state : IsStateOf given.plan given.flows t) (same : IsSameActor s t) (ends : AreSameEnds e f) where
   abbrev before : Option Ending → Member
-  before ending = record { number = number; state = s; ends = e; ending = ending; passed = passed }
+  before ending = record { number = number; state = s; ends = e; ending = ending; passed = passed; lines = lines }
 
   abbrev behind : Option Ending → Member
-  behind ending = record { number = number; state = t; ends = f; ending = ending; passed = passed }
+  behind ending = record { number = number; state = t; ends = f; ending = ending; passed = passed; lines = lines }
 
   member : (ending wanted : Option Ending) → IsMember given number (before ending) → EndsWith wanted t.ended → IsMember given number (behind wanted)
   member ending wanted is now_is = record {
@@ -179,7 +180,7 @@ pub acted_as : (given : Given) → IsAccepted given.plan → (m : Member) (t : C
 acted_as given accepted m t f committed state same ends acted asked acts pasts is =
     let limited = subst (λ limit. Acts given.plan.kernel (turn given.plan given.flows limit m.state.actor (actor_of m.state)) acted m.state t asked) is.member.limit acts in
     let numbered = subst (λ k. Acts given.plan.kernel (turn given.plan given.flows given.limit k (actor_of m.state)) acted m.state t asked) is.member.actor limited in
-    by_ending given accepted m.number m.passed m.state t m.ends f committed state same ends m.ending is acted asked numbered pasts (subst (λ k. m.state.step < length (code_of given.plan k).steps) is.member.actor is.member.state.step)
+    by_ending given accepted m.number m.passed m.state t m.ends f m.lines committed state same ends m.ending is acted asked numbered pasts (subst (λ k. m.state.step < length (code_of given.plan k).steps) is.member.actor is.member.state.step)
 
 pub may_act : (given : Given) → IsAccepted given.plan → (m : Member) (committed : List Reaction) → HasDone given committed m → MayUse given.plan m.state.actor (puts_of m.ends) (takes_of m.ends)
 may_act given accepted m committed is =

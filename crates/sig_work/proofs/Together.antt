@@ -112,14 +112,12 @@ module _ (given : Given) (accepted : IsAccepted given.plan) (committed : List Re
           let put = (done_of info.writer w writer.2).member.ends.writes j info at (sym writer.2.numbered) in
           let take = (done_of info.reader r reader.2).member.ends.reads j info at (sym reader.2.numbered) in
           let found = settled j info lt at w writer.2 r reader.2 put.0 take.0 put.1 take.1 in
-          let queue = found.1 in
-          let room = queue.3 in
-          let count = queue.2 in
+          let room = found.2 in
           let capacity = put.2 in (
-            queue.0,
-            ap (λ (o : Own). o.sent j) (own_is info.writer w writer.2) ∙ ap sent_by put.1 ∙ queue.1
-                ∙ ap (λ (xs : List ℤ). xs ++ queue.0) (sym (ap (λ (o : Own). o.taken j) (own_is info.reader r reader.2) ∙ ap taken_by take.1)),
-            omega (arith, room, count, capacity),
+            found.0,
+            ap (λ (o : Own). o.sent j) (own_is info.writer w writer.2) ∙ ap sent_by put.1 ∙ found.1
+                ∙ ap (λ (xs : List ℤ). xs ++ found.0) (sym (ap (λ (o : Own). o.taken j) (own_is info.reader r reader.2) ∙ ap taken_by take.1)),
+            omega (arith, room, capacity),
           )
 
     pub held_by : (j : ℕ) → j < length given.plan.links → (items : List ℤ) × HeldBy j items

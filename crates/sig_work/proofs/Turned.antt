@@ -2,6 +2,7 @@
 use Rattle.sig_work.proofs.Common.{◌≡◌, ◌<◌, ◌≤◌, ◌^◌, ◌++◌, ◌⊎◌, ◌∙◌, inl, inr, ℕ, ℤ, true, false, List, [], ◌∷◌, sym, subst, arith, Some, min, no_place, packed, Place, recorded, Halt, HaltSeat, outputs_of, seen_lines, Given, Reaction, PlanView, last_reaction, place_of, Acted, Empty, HasActedAs, HasDone, IsSameMember, is_collector, run_of, IsServed, KeepsMember, KeepsSeat, ServesMember, Failed, AtLimit, Member}
 use Rattle.sig_work.proofs.GoingOn.{none_more, one_more}
 use Rattle.sig_work.proofs.Served.{served_on, served_to_failure, served_to_limit, some_place}
+use Rattle.sig_work.proofs.HandedOver.{lined_done}
 use Rattle.sig_step.specs.declared.answer.Acted.TheVariants.{Full}
 
 -- a running member stays
@@ -11,6 +12,11 @@ acted_keeps old new runs same noted = record {
   ended = λ ended. absurd (let e : true ≡ false = sym ended ∙ runs in cc);
   unfaulted = λ faulted. sym noted ∙ faulted;
 }
+
+-- so one that wrote lines
+pub lined_keeps : (old mid lined : Member) → lined ≡ record mid { lines = lined.lines } → KeepsMember old mid → KeepsMember old lined
+lined_keeps old mid lined lined_is keeps = subst (λ (m : Member). KeepsMember old m) (sym lined_is)
+    (record { same = record { number = keeps.same.number; ends = keeps.same.ends }; ended = keeps.ended; unfaulted = keeps.unfaulted })
 
 module _ {S : Type 0} (took : S → List ℕ → S → Type 0) (plan : PlanView) (flows : List (List ℤ)) (word : Halt) (old mid : Member) (by : HaltSeat) (runs : old.state.ended ≡ false) (noted : mid.ending ≡ old.ending) where
   -- the step left this
@@ -23,13 +29,16 @@ module _ {S : Type 0} (took : S → List ℕ → S → Type 0) (plan : PlanView)
       none_more took plan.kernel (λ all. IsServed given word others all mid by) (is_collector given mid ≡ true) committed sink nothing
       (served_on given word others committed committed old mid by runs is noted (leaves capacity limit committed is.done))
 
-  pub commits : (before after : S) → took before (seen_lines (outputs_of plan.kernel) (last_reaction plan.kernel mid.state)) after
-      → Leaves (λ given committed. HasDone given (committed ++ last_reaction plan.kernel mid.state ∷ []) mid × (is_collector given mid ≡ true)) → ServesMember took plan flows word old by mid by before after
-  commits before after text leaves capacity limit others committed is =
+  -- it committed, and its text was taken
+  pub commits : (lined : Member) → lined ≡ record mid { lines = lined.lines } → (before after : S) → took before (seen_lines (outputs_of plan.kernel) (last_reaction plan.kernel mid.state)) after
+      → Leaves (λ given committed. HasDone given (committed ++ last_reaction plan.kernel mid.state ∷ []) mid × (is_collector given mid ≡ true)) → ServesMember took plan flows word old by lined by before after
+  commits lined lined_is before after text leaves = subst (λ (m : Member). ServesMember took plan flows word old by m by before after) (sym lined_is) (λ capacity limit others committed is.
       let given : Given = run_of plan flows capacity limit in
       let left = leaves capacity limit committed is.done in
-      one_more took plan.kernel (λ all. IsServed given word others all mid by) (is_collector given mid ≡ true) committed (last_reaction plan.kernel mid.state) before after text
-      (served_on given word others committed (committed ++ last_reaction plan.kernel mid.state ∷ []) old mid by runs is noted left.0) left.1
+      let behind : Member = record mid { lines = lined.lines } in
+      one_more took plan.kernel (λ all. IsServed given word others all behind by) (is_collector given mid ≡ true) committed (last_reaction plan.kernel mid.state) before after text
+      (served_on given word others committed (committed ++ last_reaction plan.kernel mid.state ∷ []) old behind by runs is noted
+      (lined_done given (committed ++ last_reaction plan.kernel mid.state ∷ []) mid left.0 lined.lines)) left.1)
 
   pub rests : (sink : S) → took sink [] sink → Leaves (λ given committed. HasDone given committed mid) → (new : Member) (now : HaltSeat)
       → ((given : Given) (others : ℕ) (committed : List Reaction) → IsServed given word others committed mid by → IsServed given word others committed new now) → ServesMember took plan flows word old by new now sink sink

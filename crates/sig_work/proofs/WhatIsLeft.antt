@@ -1,5 +1,5 @@
 -- What is left of shares whose members give up ends.
-use Rattle.sig_work.proofs.Common.{◌≡◌, ◌<◌, ◌+◌, ◌∙◌, inl, inr, ℕ, suc, cond, List, [], ◌∷◌, length, get_or, set, refl, ap, sym, subst, arith, IfNone, IfSome, None, Option, Some, slice_get, sum_by, ◌==◌, length-set, sum_by-cons, IsSeatOf, parts, recorded, seen, Halt, HaltSeat, IsSettled, Put, Take, LinkInfo, same_Some, AreSingle, IsAmong, StandsAt, times, times_in, AreLeft, AreLeftEnds, AreSettledBelow, But, Each, From, HasNoPut, HasNoTake, HaveRoomFor, IsLeftMember, IsLeftShare, IsLinked, IsPutOf, IsSettledLink, IsTakeOf, AreSeatsOf, IsClosed, LinkEnds, Spot, Member, Share, slice_get-get_or, slice_get_within, some_at, cases_eq, set_here}
+use Rattle.sig_work.proofs.Common.{◌≡◌, ◌<◌, ◌+◌, ◌∙◌, inl, inr, ℕ, suc, cond, List, [], ◌∷◌, length, get_or, set, refl, ap, sym, subst, arith, IfNone, IfSome, None, Option, Some, slice_get, sum_by, ◌==◌, length-set, sum_by-cons, IsSeatOf, parts, recorded, seen, Halt, HaltSeat, IsSettled, Inlet, Outlet, LinkInfo, same_Some, AreSingle, IsAmong, StandsAt, times, times_in, AreLeft, AreLeftEnds, AreSettledBelow, But, Each, From, HasNoPut, HasNoTake, HaveRoomFor, IsLeftMember, IsLeftShare, IsLinked, IsPutOf, IsSettledLink, IsTakeOf, AreSeatsOf, IsClosed, LinkEnds, Spot, Member, Share, slice_get-get_or, slice_get_within, some_at, cases_eq, set_here}
 use Rattle.sig_work.proofs.CountedMembers.{same_member}
 use Rattle.sig_work.proofs.ItemInPlace.{set_apart}
 
@@ -160,13 +160,13 @@ module _ (n : ℕ) where
 -- ---- the ends of one link
 
 module _ (shares : List Share) (single : AreSingle shares) (link : ℕ) (info : LinkInfo) where
-  pub settled_both : (put : Put) (take : Take) (left : ℕ) → IsPutOf shares info.writer link put → IsTakeOf shares info.reader link take → IsSettled put take left → IsSettledLink shares link info
-  settled_both put take left p t settled w one r two put_w take_r is_put is_take =
+  pub settled_both : (put : Inlet) (take : Outlet) → IsPutOf shares info.writer link put → IsTakeOf shares info.reader link take → IsSettled put take → IsSettledLink shares link info
+  settled_both put take p t settled w one r two put_w take_r is_put is_take =
       let w_is : p.member ≡ w = same_member shares info.writer (single info.writer) p.member w p.among one in
       let r_is : t.member ≡ r = same_member shares info.reader (single info.reader) t.member r t.among two in
       let puts : Some put ≡ Some put_w = same_Some (Some put) (Some put_w) (sym p.is ∙ ap (λ (m : Member). slice_get m.ends.puts.items link) w_is ∙ is_put) in
       let takes : Some take ≡ Some take_r = same_Some (Some take) (Some take_r) (sym t.is ∙ ap (λ (m : Member). slice_get m.ends.takes.items link) r_is ∙ is_take) in
-      (left, subst (λ q. IsSettled q take_r left) (same_Some put put_w puts) (subst (λ q. IsSettled put q left) (same_Some take take_r takes) settled))
+      subst (λ q. IsSettled q take_r) (same_Some put put_w puts) (subst (λ q. IsSettled put q) (same_Some take take_r takes) settled)
 
   pub settled_without_put : HasNoPut shares info.writer link → IsSettledLink shares link info
   settled_without_put none w one r two put take is_put is_take =
@@ -240,19 +240,19 @@ module _ (shares : List Share) (k : ℕ) (spot : Spot) (stands : StandsAt shares
     same_as : (m : Member) → IsAmong shares k m → stands.member ≡ m
     same_as m one = same_member shares k (single k) stands.member m among_at one
 
-    pub put_some : (o : Option Put) → ((m : Member) → slice_get here.members.items spot.member ≡ Some m → slice_get m.ends.puts.items link ≡ Some o) → IfSome o (IsPutOf shares k link)
+    pub put_some : (o : Option Inlet) → ((m : Member) → slice_get here.members.items spot.member ≡ Some m → slice_get m.ends.puts.items link ≡ Some o) → IfSome o (IsPutOf shares k link)
     put_some None is = tt
     put_some (Some put) is = record { member = stands.member; among = among_at; is = is stands.member member_at }
 
-    pub put_none : (o : Option Put) → ((m : Member) → slice_get here.members.items spot.member ≡ Some m → slice_get m.ends.puts.items link ≡ Some o) → IfNone o (HasNoPut shares k link)
+    pub put_none : (o : Option Inlet) → ((m : Member) → slice_get here.members.items spot.member ≡ Some m → slice_get m.ends.puts.items link ≡ Some o) → IfNone o (HasNoPut shares k link)
     put_none None is = λ m one. ap (λ (n : Member). slice_get n.ends.puts.items link) (sym (same_as m one)) ∙ is stands.member member_at
     put_none (Some put) is = tt
 
-    pub take_some : (o : Option Take) → ((m : Member) → slice_get here.members.items spot.member ≡ Some m → slice_get m.ends.takes.items link ≡ Some o) → IfSome o (IsTakeOf shares k link)
+    pub take_some : (o : Option Outlet) → ((m : Member) → slice_get here.members.items spot.member ≡ Some m → slice_get m.ends.takes.items link ≡ Some o) → IfSome o (IsTakeOf shares k link)
     take_some None is = tt
     take_some (Some take) is = record { member = stands.member; among = among_at; is = is stands.member member_at }
 
-    pub take_none : (o : Option Take) → ((m : Member) → slice_get here.members.items spot.member ≡ Some m → slice_get m.ends.takes.items link ≡ Some o) → IfNone o (HasNoTake shares k link)
+    pub take_none : (o : Option Outlet) → ((m : Member) → slice_get here.members.items spot.member ≡ Some m → slice_get m.ends.takes.items link ≡ Some o) → IfNone o (HasNoTake shares k link)
     take_none None is = λ m one. ap (λ (n : Member). slice_get n.ends.takes.items link) (sym (same_as m one)) ∙ is stands.member member_at
     take_none (Some take) is = tt
 
@@ -303,7 +303,7 @@ module _ (n : ℕ) (old mid : List Share) (left : AreLeft (But n) Each old mid) 
   left_weaker = left_then (But n) Each Each Each (But n) (But n) (λ link other. (other, tt)) (λ link other. (tt, tt)) old mid mid left (nothing_taken Each Each mid)
 
   -- what the other end was
-  pub take_before : (k : ℕ) (take : Take) → IsTakeOf mid k n take → IsTakeOf old k n take
+  pub take_before : (k : ℕ) (take : Outlet) → IsTakeOf mid k n take → IsTakeOf old k n take
   take_before k take was =
       let before = among_before (But n) Each old mid left k was.member was.among in
       record { member = before.0; among = before.1; is = sym (before.2.ends.takes n tt) ∙ was.is }

@@ -1,5 +1,5 @@
 -- A whole run: what was dealt and then served comes to the end of the run.
-use Rattle.sig_work.proofs.Common.{◌≡◌, ◌<◌, ◌≤◌, ◌-◌, ◌+◌, ◌++◌, ◌∙◌, inl, inr, ℕ, ℤ, List, [], ◌∷◌, length, refl, ap, sym, subst, arith, None, Option, Some, slice_get, eqb-true, length-append, IsWholeRun, TookSome, IsLongest, Trace, Place, Halt, IsKernelTrace, output_text, AreFlowsFor, OfOneLink, Put, Take, at_most_or, IsEnd, Given, reactions_text, Reaction, IsAccepted, PlanView, LinkInfo, text_is, TookPrefix, TookPrefix-longer, same_Some, AreSingle, IsAmong, times, AreAll, AreDealt, AreDone, AreTogether, BeginsTheRun, IsEndOfRun, IsSameMember, run_of, AreBegun, AreKept, IsOfClusters, WereHalted, WereRun, HaveEnded, IsServing, NoneFaulted, Faulted, Member, Share, slice_get_within, some_at}
+use Rattle.sig_work.proofs.Common.{◌≡◌, ◌<◌, ◌≤◌, ◌-◌, ◌+◌, ◌++◌, ◌∙◌, inl, inr, ℕ, ℤ, List, [], ◌∷◌, length, refl, ap, sym, subst, arith, None, Option, Some, slice_get, eqb-true, length-append, IsWholeRun, TookSome, IsLongest, Trace, Place, Halt, IsKernelTrace, output_text, AreFlowsFor, OfOneLink, Inlet, Outlet, at_most_or, IsEnd, Given, reactions_text, Reaction, IsAccepted, PlanView, LinkInfo, text_is, TookPrefix, TookPrefix-longer, same_Some, AreSingle, IsAmong, times, AreAll, AreDealt, AreDone, AreTogether, BeginsTheRun, IsEndOfRun, IsSameMember, run_of, AreBegun, AreKept, IsOfClusters, WereHalted, WereRun, HaveEnded, IsServing, NoneFaulted, Faulted, Member, Share, slice_get_within, some_at}
 use Rattle.sig_plan.specs.declared.ended.Ended.{Ended}
 use Rattle.sig_work.proofs.CountedMembers.{some_member}
 use Rattle.sig_work.proofs.ItemInPlace.{get_front, get_last, get_more}
@@ -73,12 +73,12 @@ module _ (given : Given) (workers : ℕ) (word : Halt) (dealt : List Share) (are
         )
 
     -- the ends that a member was dealt
-    had_put : (j : ℕ) (info : LinkInfo) → slice_get given.plan.links j ≡ Some info → (b : Member) → IsAmong dealt info.writer b → (put : Put) × (slice_get b.ends.puts.items j ≡ Some (Some put))
+    had_put : (j : ℕ) (info : LinkInfo) → slice_get given.plan.links j ≡ Some info → (b : Member) → IsAmong dealt info.writer b → (put : Inlet) × (slice_get b.ends.puts.items j ≡ Some (Some put))
     had_put j info at b one =
         let ends = ((are.serving one.at one.share one.there).done one.number b one.is).member.ends.writes j info at (sym one.numbered) in
         (ends.0, ends.1)
 
-    had_take : (j : ℕ) (info : LinkInfo) → slice_get given.plan.links j ≡ Some info → (b : Member) → IsAmong dealt info.reader b → (take : Take) × (slice_get b.ends.takes.items j ≡ Some (Some take))
+    had_take : (j : ℕ) (info : LinkInfo) → slice_get given.plan.links j ≡ Some info → (b : Member) → IsAmong dealt info.reader b → (take : Outlet) × (slice_get b.ends.takes.items j ≡ Some (Some take))
     had_take j info at b one =
         let ends = ((are.serving one.at one.share one.there).done one.number b one.is).member.ends.reads j info at (sym one.numbered) in
         (ends.0, ends.1)

@@ -13,11 +13,13 @@ use crate::joining::join_all;
 use crate::member::Member;
 use crate::plans::{actors_in, links_in, plans_are_accepted};
 use crate::share::Share;
+use sig_flow::OutputLines;
 use sig_halt::Halt;
 use sig_kernel::Inputs;
 use sig_plan::Plan;
 use sig_step::ClusterState;
-use std::alloc::Global;
+use sig_values::lines_for;
+use std::alloc::{AllocError, Global};
 
 /// The failure word and the shares of a plan's actors in their opening states, over links of a capacity and
 /// up to a limit of instants: one share for each worker w of `workers` that has a cluster k with
@@ -48,6 +50,15 @@ pub fn deal(
     Ok((halt, shares))
 }
 
+/// Room for the lines of an instant, where the actor is the collector.
+fn lines_of(alloc: Global, plan: &Plan, actor: usize) -> Result<OutputLines, AllocError> {
+    if actor == actors_in(plan).saturating_sub(1) {
+        lines_for(alloc, plan)
+    } else {
+        OutputLines::new(alloc, &[])
+    }
+}
+
 /// All actors of a plan by number, in their opening states and without links.
 fn opened(
     alloc: Global,
@@ -72,6 +83,7 @@ fn opened(
             ends: LinkEnds::of_none(alloc, links)?,
             ending: None,
             passed: 0,
+            lines: lines_of(alloc, plan, actor)?,
         })?;
     }
     Ok(members)

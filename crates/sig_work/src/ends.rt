@@ -5,7 +5,7 @@ ghost use Rattle.sig_work.specs.Ends.{HasNoEnds};
 
 use crate::neighbours::Neighbours;
 use sig_base::Full;
-use sig_link::{Put, Take};
+use sig_chunk::{Inlet, Outlet};
 use sig_step::Ends;
 use std::alloc::{AllocError, Global};
 use std::mem;
@@ -14,8 +14,10 @@ use std::sync::Wait;
 /// The ends of the links to which one actor sends and from which it takes, by the numbers of links.
 #[derive(Drop)]
 pub struct LinkEnds {
-    pub(crate) puts: Vec<Option<Put>>,
-    pub(crate) takes: Vec<Option<Take>>,
+    pub(crate) puts: Vec<Option<Inlet>>,
+    pub(crate) takes: Vec<Option<Outlet>>,
+    /// Whether some of those that put may hold items that they have not handed over.
+    pub(crate) holds: bool,
 }
 
 impl LinkEnds {
@@ -24,16 +26,17 @@ impl LinkEnds {
         LinkEnds {
             puts: Vec::new(alloc),
             takes: Vec::new(alloc),
+            holds: false,
         }
     }
 
     /// The end of a link that puts, if it is here.
-    pub(crate) fn put_at(&self, link: u32) -> Option<&Put> {
+    pub(crate) fn put_at(&self, link: u32) -> Option<&Inlet> {
         self.puts.get(link as usize)?.as_ref()
     }
 
     /// The end of a link that takes, if it is here.
-    pub(crate) fn take_at(&self, link: u32) -> Option<&Take> {
+    pub(crate) fn take_at(&self, link: u32) -> Option<&Outlet> {
         self.takes.get(link as usize)?.as_ref()
     }
 
@@ -55,7 +58,11 @@ impl LinkEnds {
             puts.push_reserved(None);
             takes.push_reserved(None);
         }
-        Ok(LinkEnds { puts, takes })
+        Ok(LinkEnds {
+            puts,
+            takes,
+            holds: false,
+        })
     }
 }
 
@@ -94,7 +101,9 @@ impl<'a, R: Wait> Ends for Lent<'a, R> {
         match &mut self.ends.puts[link as usize] {
             Some(put) => {
                 let pushed = put.push(self.rt, item);
-                self.neighbours.note_put(link, pushed.is_ok());
+                let holds = put.holds();
+                self.ends.holds |= holds;
+                self.neighbours.note_put(link, pushed.is_ok() & !holds);
                 pushed
             }
             None => unreachable!(),
@@ -105,7 +114,8 @@ impl<'a, R: Wait> Ends for Lent<'a, R> {
         match &mut self.ends.takes[link as usize] {
             Some(take) => {
                 let popped = take.pop(self.rt);
-                self.neighbours.note_take(link, popped.is_some());
+                self.neighbours
+                    .note_take(link, popped.is_some() & take.began_chunk());
                 popped
             }
             None => unreachable!(),

@@ -2,6 +2,7 @@
 
 use crate::ends::LinkEnds;
 use sig_base::Place;
+use sig_flow::OutputLines;
 use sig_step::ClusterState;
 
 /// How an actor ended.
@@ -27,4 +28,6 @@ pub struct Member {
     pub(crate) ending: Option<Ending>,
     /// The last instant at which it passed the gate, 0 before the first.
     pub(crate) passed: u32,
+    /// Room for the lines of an instant, where the actor is the collector.
+    pub(crate) lines: OutputLines,
 }

@@ -16,7 +16,7 @@ pub(crate) struct Neighbours<'a> {
 }
 
 impl Neighbours<'_> {
-    /// Notes that an item was put on a link, where it was: its reader may rest for that.
+    /// Notes that a chunk was handed over on a link, where it was: its reader may rest for that.
     pub(crate) fn note_put(&self, number: u32, put: bool) {
         if put {
             if let Some(link) = self.link(number) {
@@ -25,7 +25,7 @@ impl Neighbours<'_> {
         }
     }
 
-    /// Notes that an item was taken from a link, where it was: its writer may rest for that.
+    /// Notes that a chunk was taken from a link, where it was: its writer may rest for that.
     pub(crate) fn note_take(&self, number: u32, taken: bool) {
         if taken {
             if let Some(link) = self.link(number) {
@@ -66,9 +66,13 @@ impl Neighbours<'_> {
         }
     }
 
-    /// The link for which these shares wait, where they have one actor alone.
+    /// The link for which these shares wait, where they have one actor alone that holds no items.
     pub(crate) fn link_for(&self, shares: &[Share]) -> Option<u32> {
-        match self.next_of(only_member(shares)?)? {
+        let member = only_member(shares)?;
+        if member.ends.holds {
+            return None;
+        }
+        match self.next_of(member)? {
             StepKind::Send(link)
             | StepKind::Receive(link)
             | StepKind::Report(link)

@@ -27,6 +27,8 @@ pub(crate) struct Patience<'a> {
     moves: usize,
     rest: Option<Rest<'a>>,
     turn: Turn,
+    /// Whether it has said that all actors that the thread serves have ended.
+    left: bool,
 }
 
 impl<'a> Patience<'a> {
@@ -42,6 +44,7 @@ impl<'a> Patience<'a> {
             moves: 0,
             rest: None,
             turn: Turn::none(),
+            left: false,
         }
     }
 
@@ -69,6 +72,16 @@ impl<'a> Patience<'a> {
         if let Some(rest) = rest {
             rest.give_up();
         }
+    }
+
+    /// Whether the service is over of these shares, whose actors have all ended: their ends hold no items, or all actors
+    /// of all threads have ended, of which none takes any more.
+    pub(crate) fn is_over(&mut self, shares: &[Share]) -> bool {
+        if !self.left {
+            self.left = true;
+            self.neighbours.halt.leave(shares.len());
+        }
+        !shares.iter().any(|share| share.holds()) || self.neighbours.halt.all_left()
     }
 
     fn tell(&mut self) {

@@ -1,9 +1,9 @@
 //! The parts of a plan.
 
 ghost use Rattle.std.specs.Prelude.{◌≡◌};
-ghost use Rattle.sig_work.specs.Prelude.{length, IsAccepted};
+ghost use Rattle.sig_work.specs.Prelude.{length, IsAccepted, outputs_of};
 
-use sig_base::OpId;
+use sig_base::{OpId, Signal};
 use sig_plan::{LinkInfo, Op, Plan};
 
 /// A law: each plan is an accepted one.
@@ -26,6 +26,16 @@ pub(crate) fn links_in(plan: &Plan) -> &[LinkInfo]
     ensures { result.now ≡ plan.now.links }
 {
     plan.links.as_slice()
+}
+
+/// The outputs of a plan, in the order of their declaration.
+pub(crate) fn outputs_of(plan: &Plan) -> &[Signal]
+    ensures { result.now ≡ outputs_of plan.now.kernel }
+{
+    let kernel = &plan.kernel;
+    let (_, behind) = kernel.signals.as_slice().split_at(kernel.inputs as usize);
+    let (outputs, _) = behind.split_at(kernel.outputs as usize);
+    outputs
 }
 
 /// The order of the operations of a plan.

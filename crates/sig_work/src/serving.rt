@@ -47,7 +47,7 @@ pub fn serve<R: Wait, S: Sink, G: Gate>(
         }
         Err(fault) => {
             stop_all(halt, shares);
-            halt.wake();
+            halt.leave(shares.len());
             Err(fault)
         }
     }
@@ -76,7 +76,12 @@ fn serve_on<R: Wait, S: Sink, G: Gate>(
     'rounds: for _ in rt.forever() {
         let end = lead.end(shares);
         match serve_round(rt, plan, inputs, halt, shares, end, gate, sink)? {
-            Round::Ended => return Ok(()),
+            Round::Ended => {
+                if patience.is_over(shares) {
+                    return Ok(());
+                }
+                patience.wait(rt, shares);
+            }
             Round::Still => patience.wait(rt, shares),
             Round::Moved | Round::Stuck => patience.renew(shares),
         }

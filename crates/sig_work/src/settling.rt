@@ -10,7 +10,7 @@ use crate::ends::LinkEnds;
 use crate::finding::find;
 use crate::plans::links_in;
 use crate::share::Share;
-use sig_link::{Put, Take, settle};
+use sig_chunk::{Inlet, Outlet, settle};
 use sig_plan::{LinkInfo, Plan};
 use std::sync::Wait;
 
@@ -57,7 +57,7 @@ fn settle_link<R: Wait>(rt: &R, number: usize, info: &LinkInfo, shares: &mut [Sh
 }
 
 /// Takes the end of a link that puts from its writer.
-fn put_of(shares: &mut [Share], writer: usize, link: usize) -> Option<Put>
+fn put_of(shares: &mut [Share], writer: usize, link: usize) -> Option<Inlet>
     requires single { AreSingle shares.old }
     requires room { HaveRoomFor link shares.old }
     ensures left { AreLeft (But link) Each shares.old shares.new }
@@ -69,7 +69,7 @@ fn put_of(shares: &mut [Share], writer: usize, link: usize) -> Option<Put>
 }
 
 /// Takes the end of a link that takes from its reader.
-fn take_of(shares: &mut [Share], reader: usize, link: usize) -> Option<Take>
+fn take_of(shares: &mut [Share], reader: usize, link: usize) -> Option<Outlet>
     requires single { AreSingle shares.old }
     requires room { HaveRoomFor link shares.old }
     ensures left { AreLeft Each (But link) shares.old shares.new }
@@ -82,7 +82,7 @@ fn take_of(shares: &mut [Share], reader: usize, link: usize) -> Option<Take>
 
 impl Share {
     /// Takes the end of a link that puts from a member.
-    fn take_put(&mut self, number: usize, link: usize) -> Option<Put>
+    fn take_put(&mut self, number: usize, link: usize) -> Option<Inlet>
         requires there { number < length self.old.members.items }
         requires room { (m : Member) → slice_get self.old.members.items number ≡ Some m → link < length m.ends.puts.items }
         ensures left { IsLeftShare (But link) Each self.old self.new }
@@ -92,7 +92,7 @@ impl Share {
     }
 
     /// Takes the end of a link that takes from a member.
-    fn take_take(&mut self, number: usize, link: usize) -> Option<Take>
+    fn take_take(&mut self, number: usize, link: usize) -> Option<Outlet>
         requires there { number < length self.old.members.items }
         requires room { (m : Member) → slice_get self.old.members.items number ≡ Some m → link < length m.ends.takes.items }
         ensures left { IsLeftShare Each (But link) self.old self.new }
@@ -104,7 +104,7 @@ impl Share {
 
 impl LinkEnds {
     /// Takes the end of a link that puts.
-    fn take_put(&mut self, link: usize) -> Option<Put>
+    fn take_put(&mut self, link: usize) -> Option<Inlet>
         requires { link < length self.old.puts.items }
         ensures left { AreLeftEnds (But link) Each self.old self.new }
         ensures put { slice_get self.old.puts.items link ≡ Some result }
@@ -113,7 +113,7 @@ impl LinkEnds {
     }
 
     /// Takes the end of a link that takes.
-    fn take_take(&mut self, link: usize) -> Option<Take>
+    fn take_take(&mut self, link: usize) -> Option<Outlet>
         requires { link < length self.old.takes.items }
         ensures left { AreLeftEnds Each (But link) self.old self.new }
         ensures take { slice_get self.old.takes.items link ≡ Some result }

@@ -10,3 +10,10 @@ pub struct Share {
     pub(crate) members: Vec<Member>,
     pub(crate) seat: HaltSeat,
 }
+
+impl Share {
+    /// Whether the ends of some of its actors may hold items that they have not handed over.
+    pub(crate) fn holds(&self) -> bool {
+        self.members.iter().any(|member| member.ends.holds)
+    }
+}

@@ -13,7 +13,7 @@ use std::thread::Threads;
 
 #[test]
 fn keeps_to_its_capacity(rt: HostRuntime) -> Result<(), Fail> {
-    let (mut put, mut take) = link(rt.alloc(), 1)?;
+    let (mut put, mut take) = link::<i64>(rt.alloc(), 1)?;
     assert_eq!(rt; put.push(&rt, 7), Ok(()));
     assert_eq!(rt; put.push(&rt, 8), Err(Full));
     assert_eq!(rt; take.pop(&rt), Some(7));
@@ -24,7 +24,7 @@ fn keeps_to_its_capacity(rt: HostRuntime) -> Result<(), Fail> {
 }
 
 // Puts all items, each as soon as there is room.
-fn put_all<R: Wait>(rt: &R, mut put: Put, items: &[i64]) -> Put
+fn put_all<R: Wait>(rt: &R, mut put: Put<i64>, items: &[i64]) -> Put<i64>
     requires new { sent put ≡ [] }
     ensures end { put_link result ≡ put_link put }
     ensures all { sent result ≡ items.now }
@@ -43,7 +43,7 @@ fn put_all<R: Wait>(rt: &R, mut put: Put, items: &[i64]) -> Put
 }
 
 // Takes as many items as the list has, and writes them into it.
-fn take_all<R: Wait>(rt: &R, mut take: Take, mut copy: Vec<i64>) -> (Take, Vec<i64>)
+fn take_all<R: Wait>(rt: &R, mut take: Take<i64>, mut copy: Vec<i64>) -> (Take<i64>, Vec<i64>)
     requires { taken take ≡ [] }
     ensures end { take_link result.0 ≡ take_link take }
     ensures all { taken result.0 ≡ result.1.items }
@@ -71,7 +71,7 @@ fn relay<R: Threads + Wait + Sync>(
     items: &[i64],
 ) -> Result<(Vec<i64>, u32), LinkAnswer> {
     let copy = Vec::from_elem(alloc, 0, items.len())?;
-    let (put, take) = link(alloc, 2)?;
+    let (put, take) = link::<i64>(alloc, 2)?;
     let (put, (take, copy)) = thread::join(
         rt,
         move || put_all(rt, put, items),

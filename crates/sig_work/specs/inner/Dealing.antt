@@ -1,6 +1,6 @@
 -- The dealing of actors to shares, step by step.
 use Rattle.std.specs.Prelude.{◌≡◌, ◌≢◌, ◌<◌, ◌≤◌, ◌+◌, ◌-◌, ◌%◌, ◌==◌, ◌||◌, ◌⊎◌, ◌∷◌, ◌++◌, if◌then◌else◌}
-use Rattle.sig_work.specs.Prelude.{ℕ, ℤ, List, [], length, slice_get, sum_by, vec_capacity, None, Some, no_place, IsSeatOf, parts, recorded, Halt, OfOneLink, put_capacity, Put, Take, opening_actor, PlanView, LinkInfo, IsStateOf, actor_of}
+use Rattle.sig_work.specs.Prelude.{ℕ, ℤ, List, [], length, slice_get, sum_by, vec_capacity, None, Some, no_place, IsSeatOf, parts, recorded, Halt, OfOneLink, put_capacity, Inlet, Outlet, opening_actor, PlanView, LinkInfo, IsStateOf, actor_of}
 use Rattle.sig_work.specs.inner.Among.{times}
 use Rattle.sig_work.specs.Ends.{HasNoEnds, sent_of, taken_of}
 use Rattle.sig_work.specs.inner.Settling.{But, Each, IsLeftMember}
@@ -27,13 +27,13 @@ pub record AreOpened (plan : PlanView) (flows : List (List ℤ)) (limit count : 
 -- ---- their links
 
 -- a member got an end, and the others stayed
-pub record HasGivenPut (old new : List Member) (writer link : ℕ) (put : Put) : Type 0 where
+pub record HasGivenPut (old new : List Member) (writer link : ℕ) (put : Inlet) : Type 0 where
   pub count : length new ≡ length old
   pub others : (k : ℕ) → k ≢ writer → slice_get new k ≡ slice_get old k
   pub here : (before : Member) → slice_get old writer ≡ Some before
       → (after : Member) × (slice_get new writer ≡ Some after) × IsLeftMember (But link) Each before after × (slice_get after.ends.puts.items link ≡ Some (Some put))
 
-pub record HasGivenTake (old new : List Member) (reader link : ℕ) (take : Take) : Type 0 where
+pub record HasGivenTake (old new : List Member) (reader link : ℕ) (take : Outlet) : Type 0 where
   pub count : length new ≡ length old
   pub others : (k : ℕ) → k ≢ reader → slice_get new k ≡ slice_get old k
   pub here : (before : Member) → slice_get old reader ≡ Some before
@@ -43,8 +43,8 @@ pub record HasGivenTake (old new : List Member) (reader link : ℕ) (take : Take
 pub record IsJoinedLink (capacity : ℕ) (members : List Member) (link : ℕ) (info : LinkInfo) : Type 0 where
   pub writer : Member
   pub reader : Member
-  pub put : Put
-  pub take : Take
+  pub put : Inlet
+  pub take : Outlet
   pub writes : slice_get members info.writer ≡ Some writer
   pub reads : slice_get members info.reader ≡ Some reader
   pub has_put : slice_get writer.ends.puts.items link ≡ Some (Some put)

@@ -1,6 +1,6 @@
 -- The settling of links, whose ends the members of shares give up one after another.
 use Rattle.std.specs.Prelude.{◌≡◌, ◌≢◌, ◌<◌, ◌≤◌}
-use Rattle.sig_work.specs.Prelude.{ℕ, List, length, slice_get, None, Some, IsSettled, OfOneLink, Put, Take, LinkInfo}
+use Rattle.sig_work.specs.Prelude.{ℕ, List, length, slice_get, None, Some, IsSettled, OfOneLink, Inlet, Outlet, LinkInfo}
 use Rattle.sig_work.specs.inner.Among.{Is, IsAmong}
 use Rattle.sig_work.specs.declared.ends.LinkEnds.{LinkEnds}
 use Rattle.sig_work.specs.declared.member.Member.{Member}
@@ -9,14 +9,14 @@ use Rattle.sig_work.specs.declared.share.Share.{Share}
 -- the ends of a link that its writer and its reader have are of one link
 abbrev pub IsLinked : ℕ → LinkInfo → List Share → Type 0
 IsLinked link info shares = Is shares info.writer (λ writer. Is shares info.reader (λ reader.
-    (put : Put) (take : Take) → slice_get writer.ends.puts.items link ≡ Some (Some put) → slice_get reader.ends.takes.items link ≡ Some (Some take)
+    (put : Inlet) (take : Outlet) → slice_get writer.ends.puts.items link ≡ Some (Some put) → slice_get reader.ends.takes.items link ≡ Some (Some take)
     → OfOneLink put take))
 
 -- the ends of a link were settled
 abbrev pub IsSettledLink : List Share → ℕ → LinkInfo → Type 0
 IsSettledLink shares link info = Is shares info.writer (λ writer. Is shares info.reader (λ reader.
-    (put : Put) (take : Take) → slice_get writer.ends.puts.items link ≡ Some (Some put) → slice_get reader.ends.takes.items link ≡ Some (Some take)
-    → (left : ℕ) × IsSettled put take left))
+    (put : Inlet) (take : Outlet) → slice_get writer.ends.puts.items link ≡ Some (Some put) → slice_get reader.ends.takes.items link ≡ Some (Some take)
+    → IsSettled put take))
 
 -- so were those of the first links
 abbrev pub AreSettledBelow : ℕ → List LinkInfo → List Share → Type 0
@@ -65,12 +65,12 @@ HaveRoomFor link shares = (at number : ℕ) (share : Share) (m : Member) → sli
     → (link < length m.ends.puts.items) × (link < length m.ends.takes.items)
 
 -- the member k had this end of a link
-pub record IsPutOf (shares : List Share) (k link : ℕ) (put : Put) : Type 0 where
+pub record IsPutOf (shares : List Share) (k link : ℕ) (put : Inlet) : Type 0 where
   pub member : Member
   pub among : IsAmong shares k member
   pub is : slice_get member.ends.puts.items link ≡ Some (Some put)
 
-pub record IsTakeOf (shares : List Share) (k link : ℕ) (take : Take) : Type 0 where
+pub record IsTakeOf (shares : List Share) (k link : ℕ) (take : Outlet) : Type 0 where
   pub member : Member
   pub among : IsAmong shares k member
   pub is : slice_get member.ends.takes.items link ≡ Some (Some take)

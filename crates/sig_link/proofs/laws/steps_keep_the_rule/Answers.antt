@@ -2,7 +2,7 @@ use Rattle.sig_link.proofs.RuleKept.{begins, forks, pushes, full, pops, empty, m
 use Rattle.sig_link.proofs.laws.steps_keep_the_rule.Goals as goal
 
 pub returns : goal.returns
-returns c = record {
+returns g c = record {
   making = begins;
   second_end = forks;
   push = pushes;

@@ -22,11 +22,11 @@ returns-in_err-serve_round-clause-part g c =
     rw p.1 (shares_then g.S.Sink.took (TookPrefix g.S.Sink.took) (joins_part g.S.Sink.took g.met.S.Sink.took_both) c.args.plan.now c.args.inputs.now c.args.halt.now c.args.sink.now c.rounds.sink c.serve_round.new.sink
     c.args.shares.now c.rounds.shares c.serve_round.new.shares c.serve_round.ensures.keeps c.rounds.invariant.serves c.in_err-serve_round.ensures.part)
 
-pub returns-in-Ended-clause-keeps : goal.returns-in-Ended-clause-keeps
-returns-in-Ended-clause-keeps g c = shares_keep_then c.args.shares.now c.rounds.shares c.serve_round.new.shares c.rounds.invariant.keeps c.serve_round.ensures.keeps
+pub returns-then-is_over-clause-keeps : goal.returns-then-is_over-clause-keeps
+returns-then-is_over-clause-keeps g c = shares_keep_then c.args.shares.now c.rounds.shares c.serve_round.new.shares c.rounds.invariant.keeps c.serve_round.ensures.keeps
 
-pub returns-in-Ended-clause-serves : goal.returns-in-Ended-clause-serves
-returns-in-Ended-clause-serves g c =
+pub returns-then-is_over-clause-serves : goal.returns-then-is_over-clause-serves
+returns-then-is_over-clause-serves g c =
     shares_then g.S.Sink.took g.S.Sink.took g.met.S.Sink.took_both c.args.plan.now c.args.inputs.now c.args.halt.now c.args.sink.now c.rounds.sink c.serve_round.new.sink
     c.args.shares.now c.rounds.shares c.serve_round.new.shares c.serve_round.ensures.keeps c.rounds.invariant.serves c.in_ok-serve_round.ensures.serves
 
@@ -40,6 +40,14 @@ rounds-preserved g c = record {
 
 pub rounds-preserved-in-Still : goal.rounds-preserved-in-Still
 rounds-preserved-in-Still g c = record {
+  keeps = shares_keep_then c.args.shares.now c.rounds.shares c.serve_round.new.shares c.rounds.invariant.keeps c.serve_round.ensures.keeps;
+  serves = shares_then g.S.Sink.took g.S.Sink.took g.met.S.Sink.took_both c.args.plan.now c.args.inputs.now c.args.halt.now c.args.sink.now c.rounds.sink c.serve_round.new.sink
+      c.args.shares.now c.rounds.shares c.serve_round.new.shares c.serve_round.ensures.keeps c.rounds.invariant.serves c.in_ok-serve_round.ensures.serves;
+  faults = omega (arith, c.rounds.invariant.faults, c.serve_round.ensures.faults_stay);
+}
+
+pub rounds-preserved-in-Ended : goal.rounds-preserved-in-Ended
+rounds-preserved-in-Ended g c = record {
   keeps = shares_keep_then c.args.shares.now c.rounds.shares c.serve_round.new.shares c.rounds.invariant.keeps c.serve_round.ensures.keeps;
   serves = shares_then g.S.Sink.took g.S.Sink.took g.met.S.Sink.took_both c.args.plan.now c.args.inputs.now c.args.halt.now c.args.sink.now c.rounds.sink c.serve_round.new.sink
       c.args.shares.now c.rounds.shares c.serve_round.new.shares c.serve_round.ensures.keeps c.rounds.invariant.serves c.in_ok-serve_round.ensures.serves;

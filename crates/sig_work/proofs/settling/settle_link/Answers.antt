@@ -30,5 +30,5 @@ pub returns-clause-left : goal.returns-clause-left
 returns-clause-left g c = both_left c.args.number c.args.shares.now c.put_of.new.shares c.take_of.new.shares c.put_of.ensures.left c.take_of.ensures.left
 
 pub returns-clause-settled : goal.returns-clause-settled
-returns-clause-settled g c = settled_both c.args.shares.now c.requires.single c.args.number c.args.info.now c.in-Some.put c.in-Some-take_of.take c.settle.result.left c.in-Some.ensures.some
+returns-clause-settled g c = settled_both c.args.shares.now c.requires.single c.args.number c.args.info.now c.in-Some.put c.in-Some-take_of.take c.in-Some.ensures.some
     (take_before c.args.number c.args.shares.now c.put_of.new.shares c.put_of.ensures.left c.args.info.now.reader c.in-Some-take_of.take c.in-Some-take_of.ensures.some) c.settle.ensures

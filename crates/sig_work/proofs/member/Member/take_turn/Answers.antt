@@ -9,7 +9,7 @@ pub returns-in_err-put_reaction-in-Commit-clause-part : goal.returns-in_err-put_
 returns-in_err-put_reaction-in-Commit-clause-part g c =
     let p = err_from_is_err_and c.from_residual.result c.from_residual.ensures.1 in
     rw p.1 (commits (TookPrefix g.S.Sink.took) c.args.plan.now c.args.inputs.now c.args.halt.now c.args.self.now c.act.new.self c.args.seat.now c.requires.runs (noted c.args.self.now c.act.new.self c.act.ensures.rest)
-    c.args.sink.now c.put_reaction.new.sink c.in_err-put_reaction-in-Commit.ensures.prefix c.in-Commit.ensures.done)
+    c.put_reaction.new.self c.put_reaction.ensures.lines c.args.sink.now c.put_reaction.new.sink c.in_err-put_reaction-in-Commit.ensures.prefix c.in-Commit.ensures.done)
 
 pub fail-requires-clause-place : goal.fail-requires-clause-place
 fail-requires-clause-place g c =
@@ -26,7 +26,7 @@ returns-in-Done-clause-serves g c =
 pub returns-in_ok-put_reaction-in-Commit-clause-serves : goal.returns-in_ok-put_reaction-in-Commit-clause-serves
 returns-in_ok-put_reaction-in-Commit-clause-serves g c =
     commits g.S.Sink.took c.args.plan.now c.args.inputs.now c.args.halt.now c.args.self.now c.act.new.self c.args.seat.now c.requires.runs (noted c.args.self.now c.act.new.self c.act.ensures.rest)
-    c.args.sink.now c.put_reaction.new.sink c.in_ok-put_reaction-in-Commit.ensures.all c.in-Commit.ensures.done
+    c.put_reaction.new.self c.put_reaction.ensures.lines c.args.sink.now c.put_reaction.new.sink c.in_ok-put_reaction-in-Commit.ensures.all c.in-Commit.ensures.done
 
 pub returns-in-Empty-clause-keeps : goal.returns-in-Empty-clause-keeps
 returns-in-Empty-clause-keeps g c =

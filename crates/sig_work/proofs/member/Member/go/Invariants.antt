@@ -1,5 +1,5 @@
 use Rattle.sig_work.proofs.{◌≢◌, ◌≤◌, KeepsMember, KeepsSeat, ServesMember, Ended}
-use Rattle.sig_work.proofs.member.Member.advance.Given as goal
+use Rattle.sig_work.proofs.member.Member.go.Given as goal
 
 abbrev pub invariant-loop : goal.invariant-loop
 invariant-loop g l = record {
