@@ -5,7 +5,7 @@ use Rattle.sig_cells.specs.Prelude.{Holds, Node, Ref, Registers}
 use Rattle.sig_cells.specs.Codes.{AreInstructions, IsCode, guards_in, instructions_in, scope_in}
 use Rattle.sig_cells.specs.Guards.{AsksAmong, Scope, holds_by}
 use Rattle.sig_cells.specs.Instants.{EndsAt, FailsAt, Handles, Keeps, Stands, holds_at}
-use Rattle.sig_cells.specs.inner.Rows.{GoesTo}
+use Rattle.sig_cells.specs.Rows.{GoesTo}
 use Rattle.sig_cells.specs.Instructions.{Cells, registers_in}
 use Rattle.sig_cells.specs.inner.Tests.{AsksWithin, Tells, is_end, told_by, truth_by}
 use Rattle.sig_cells.specs.inner.Ways.{AreWaysOf, IsRun, IsStretch}
@@ -53,7 +53,7 @@ module _ (nodes : List Node) (code : Code) (flows : List (List ℤ)) (instant : 
 
   -- An instant stands before the run of a place, or at the end: those before it are handled, and the test tells the guard.
   pub record IsBeforeRun (s : Cells) (next : Stretch) : Type 0 where
-    pub instructions : AreInstructions (length s.taken) (length s.values) code
+    pub instructions : AreInstructions (length s.taken) (length s.values) code.instructions
     pub stamps : length s.stamps ≡ length s.values
     pub room : code.signals ≤ length s.values
     pub keeps : Keeps (instructions_in code) instant start s
@@ -172,8 +172,8 @@ module _ (nodes : List Node) (code : Code) (flows : List (List ℤ)) (instant : 
 
               stretch_done : IsBeforeRun u stretch
               stretch_done = record {
-                instructions = subst (λ (n : ℕ). AreInstructions n (length u.values) code) (sym keeps.taken)
-                    (subst (λ (n : ℕ). AreInstructions (length s.taken) n code) (sym keeps.values) at.instructions);
+                instructions = subst (λ (n : ℕ). AreInstructions n (length u.values) code.instructions) (sym keeps.taken)
+                    (subst (λ (n : ℕ). AreInstructions (length s.taken) n code.instructions) (sym keeps.values) at.instructions);
                 stamps = keeps.stamps ∙ at.stamps ∙ sym keeps.values;
                 room = (let room = at.room in let same = keeps.values in omega (arith, room, same));
                 keeps = keeps_further (instructions_in code) instant start s u at.keeps keeps;

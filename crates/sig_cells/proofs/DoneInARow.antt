@@ -5,16 +5,15 @@ use Rattle.std.proofs.lemmas.Bool.Decides.{eqb_tells}
 use Rattle.std.proofs.lemmas.Option.{same_Some, slice_get-get_or as get_at}
 use Rattle.sig_lists.proofs.Places.{some_at}
 use Rattle.sig_lists.proofs.SetItems.{get_set_other}
-use Rattle.sig_cells.specs.Codes.{AreInstructions, instructions_in}
 use Rattle.sig_cells.specs.Instants.{DoesAt, Keeps}
-use Rattle.sig_cells.specs.inner.Rows.{Does, GoesTo, Stops}
+use Rattle.sig_cells.specs.Rows.{AreInstructions, Does, GoesTo, Stops, listed}
 use Rattle.sig_cells.specs.Instructions.{Cells, Fails, IsDone, ReadsWithin, cells_of, input_id, input_taken, left_by, taken_after}
 use Rattle.sig_cells.specs.Opcodes.{IsCoded, work_of}
 use Rattle.sig_cells.specs.inner.Quick.{ComesTo}
-use Rattle.sig_cells.specs.declared.code.Code.{Code}
 use Rattle.sig_cells.specs.declared.coded.Coded.{Coded}
 use Rattle.sig_cells.specs.declared.coded.Opcode.{Opcode}
 use Rattle.sig_cells.specs.declared.instruction.Instruction.{Instruction}
+use Rattle.sig_cells.specs.declared.instructions.Instructions.{Instructions}
 use Rattle.sig_cells.specs.declared.instruction.Work.{Work}
 use Rattle.sig_cells.specs.declared.instruction.Work.TheVariants.{Copy, Next, One, Two}
 use Rattle.sig_plan.specs.declared.ended.Cause.{Cause}
@@ -117,37 +116,37 @@ module _ (instructions : List Instruction) (instant : ℕ) where
     pub keeps_done : (flows : List (List ℤ)) (s t : Cells) → IsDone flows instant instruction s t → Keeps instructions instant s t
     keeps_done flows s t is = subst (λ (u : Cells). Keeps instructions instant s u) (sym is.leaves) (keeps_left is.value s)
 
--- ---- up to a place of a code
+-- ---- up to a place
 
--- From one place of a code up to another the instructions are done, and it is still a code over as many inputs and cells.
-pub record AreDoneTo (code : Code) (flows : List (List ℤ)) (instant from place : ℕ) (s t : Cells) : Type 0 where
-  pub instructions : AreInstructions (length t.taken) (length t.values) code
+-- From one place up to another instructions are done, and they are still within as many inputs and cells.
+pub record AreDoneTo (all : Instructions) (flows : List (List ℤ)) (instant from place : ℕ) (s t : Cells) : Type 0 where
+  pub instructions : AreInstructions (length t.taken) (length t.values) all
   pub stamps : length t.stamps ≡ length t.values
-  pub goes : GoesTo (instructions_in code) flows instant from place s t
-  pub keeps : Keeps (instructions_in code) instant s t
+  pub goes : GoesTo (listed all) flows instant from place s t
+  pub keeps : Keeps (listed all) instant s t
 
-module _ (code : Code) (flows : List (List ℤ)) (instant from : ℕ) (s : Cells) where
-  pub none_done_yet : AreInstructions (length s.taken) (length s.values) code → length s.stamps ≡ length s.values → AreDoneTo code flows instant from from s s
+module _ (all : Instructions) (flows : List (List ℤ)) (instant from : ℕ) (s : Cells) where
+  pub none_done_yet : AreInstructions (length s.taken) (length s.values) all → length s.stamps ≡ length s.values → AreDoneTo all flows instant from from s s
   none_done_yet is stamps = record {
     instructions = is;
     stamps = stamps;
-    goes = goes_nowhere (instructions_in code) flows instant from s;
-    keeps = keeps_all (instructions_in code) instant s;
+    goes = goes_nowhere (listed all) flows instant from s;
+    keeps = keeps_all (listed all) instant s;
   }
 
-  pub done_further : (place later : ℕ) (t u : Cells) → AreDoneTo code flows instant from place s t → GoesTo (instructions_in code) flows instant place later t u
-      → Keeps (instructions_in code) instant t u → AreDoneTo code flows instant from later s u
+  pub done_further : (place later : ℕ) (t u : Cells) → AreDoneTo all flows instant from place s t → GoesTo (listed all) flows instant place later t u
+      → Keeps (listed all) instant t u → AreDoneTo all flows instant from later s u
   done_further place later t u done on keeps = record {
-    instructions = subst (λ (n : ℕ). AreInstructions n (length u.values) code) (sym keeps.taken)
-        (subst (λ (n : ℕ). AreInstructions (length t.taken) n code) (sym keeps.values) done.instructions);
+    instructions = subst (λ (n : ℕ). AreInstructions n (length u.values) all) (sym keeps.taken)
+        (subst (λ (n : ℕ). AreInstructions (length t.taken) n all) (sym keeps.values) done.instructions);
     stamps = keeps.stamps ∙ done.stamps ∙ sym keeps.values;
-    goes = goes_further (instructions_in code) flows instant from place later s t u done.goes on;
-    keeps = keeps_further (instructions_in code) instant s t u done.keeps keeps;
+    goes = goes_further (listed all) flows instant from place later s t u done.goes on;
+    keeps = keeps_further (listed all) instant s t u done.keeps keeps;
   }
 
-  module _ (place : ℕ) (t : Cells) (done : AreDoneTo code flows instant from place s t) where
+  module _ (place : ℕ) (t : Cells) (done : AreDoneTo all flows instant from place s t) where
     -- the instruction of the place
-    module _ (instruction : Instruction) (at : slice_get (instructions_in code) place ≡ Some instruction) where
+    module _ (instruction : Instruction) (at : slice_get (listed all) place ≡ Some instruction) where
       pub reads_there : ReadsWithin (length t.taken) (length t.values) instruction.work
       reads_there = (done.instructions.within place instruction at).reads
 
@@ -157,13 +156,13 @@ module _ (code : Code) (flows : List (List ℤ)) (instant from : ℕ) (s : Cells
       pub stamp_there : instruction.target < length t.stamps
       stamp_there = let lt = target_there in let same = done.stamps in omega (arith, lt, same)
 
-      pub done_one_on : (u : Cells) → IsDone flows instant instruction t u → AreDoneTo code flows instant from (place + 1) s u
+      pub done_one_on : (u : Cells) → IsDone flows instant instruction t u → AreDoneTo all flows instant from (place + 1) s u
       done_one_on u is =
           done_further place (place + 1) t u done
-          (goes_one_on (instructions_in code) flows instant place place t t u (goes_nowhere (instructions_in code) flows instant place t) (instruction, at, is))
-          (keeps_done (instructions_in code) instant place instruction at flows t u is)
+          (goes_one_on (listed all) flows instant place place t t u (goes_nowhere (listed all) flows instant place t) (instruction, at, is))
+          (keeps_done (listed all) instant place instruction at flows t u is)
 
-      pub stops_here : (cause : Cause) × Fails flows instruction t cause → Stops (instructions_in code) flows place t
+      pub stops_here : (cause : Cause) × Fails flows instruction t cause → Stops (listed all) flows place t
       stops_here fails = (fails.0, (instruction, at, fails.1))
 
 -- ---- an instruction that its opcode tells
@@ -173,11 +172,11 @@ pub same_cells : (values others : List ℤ) (stamps other_stamps taken other_tak
 same_cells values others stamps other_stamps taken other_taken one two three =
     ap (λ (xs : List ℤ). cells_of xs stamps taken) one ∙ ap (λ (xs : List ℕ). cells_of others xs taken) two ∙ ap (λ (xs : List ℕ). cells_of others other_stamps xs) three
 
-pub done_as : (code : Code) (flows : List (List ℤ)) (instant from : ℕ) (s : Cells) (place : ℕ) (values others : List ℤ) (stamps other_stamps taken other_taken : List ℕ)
-    → others ≡ values → other_stamps ≡ stamps → other_taken ≡ taken → AreDoneTo code flows instant from place s (cells_of values stamps taken)
-    → AreDoneTo code flows instant from place s (cells_of others other_stamps other_taken)
-done_as code flows instant from s place values others stamps other_stamps taken other_taken one two three done =
-    subst (λ (t : Cells). AreDoneTo code flows instant from place s t) (sym (same_cells others values other_stamps stamps other_taken taken one two three)) done
+pub done_as : (all : Instructions) (flows : List (List ℤ)) (instant from : ℕ) (s : Cells) (place : ℕ) (values others : List ℤ) (stamps other_stamps taken other_taken : List ℕ)
+    → others ≡ values → other_stamps ≡ stamps → other_taken ≡ taken → AreDoneTo all flows instant from place s (cells_of values stamps taken)
+    → AreDoneTo all flows instant from place s (cells_of others other_stamps other_taken)
+done_as all flows instant from s place values others stamps other_stamps taken other_taken one two three done =
+    subst (λ (t : Cells). AreDoneTo all flows instant from place s t) (sym (same_cells others values other_stamps stamps other_taken taken one two three)) done
 
 -- what an opcode comes to is what the work comes to that it means
 comes_to : (o : Option Work) (values : List ℤ) (v : ℤ) (work : Work) → IfSome o (λ w. w ≡ work) → IsSomeAnd o (ComesTo values v) → ComesTo values v work
@@ -188,18 +187,18 @@ comes_to (Some w) values v work same comes = subst (ComesTo values v) same comes
 abbrev pub blank : Coded
 blank = record { opcode = Opcode.Other; a = 0; b = 0; target = 0 }
 
-module _ (code : Code) (flows : List (List ℤ)) (instant from : ℕ) (s : Cells) (place : ℕ) (values : List ℤ) (stamps taken : List ℕ)
-    (done : AreDoneTo code flows instant from place s (cells_of values stamps taken)) (own : List Coded) (same : own ≡ code.coded.items)
-    (within : place < length (instructions_in code)) where
+module _ (all : Instructions) (flows : List (List ℤ)) (instant from : ℕ) (s : Cells) (place : ℕ) (values : List ℤ) (stamps taken : List ℕ)
+    (done : AreDoneTo all flows instant from place s (cells_of values stamps taken)) (own : List Coded) (same : own ≡ all.coded.items)
+    (within : place < length (listed all)) where
   abbrev c : Coded
   c = slice_index_or own place blank
 
-  coded_at : slice_get code.coded.items place ≡ Some c
-  coded_at = subst (λ (xs : List Coded). slice_get code.coded.items place ≡ Some (slice_index_or xs place blank)) (sym same)
-      (get_at code.coded.items place blank (let all = done.instructions.coded.count in omega (arith, all, within)))
+  coded_at : slice_get all.coded.items place ≡ Some c
+  coded_at = subst (λ (xs : List Coded). slice_get all.coded.items place ≡ Some (slice_index_or xs place blank)) (sym same)
+      (get_at all.coded.items place blank (let all = done.instructions.coded.count in omega (arith, all, within)))
 
-  there : (instruction : Instruction) × (slice_get (instructions_in code) place ≡ Some instruction)
-  there = some_at (instructions_in code) place within
+  there : (instruction : Instruction) × (slice_get (listed all) place ≡ Some instruction)
+  there = some_at (listed all) place within
 
   is_coded : IsCoded there.0 c
   is_coded = done.instructions.coded.each place there.0 c there.1 coded_at
@@ -214,10 +213,10 @@ module _ (code : Code) (flows : List (List ℤ)) (instant from : ℕ) (s : Cells
   coded_reads = is_coded.reads (length taken) (length values) (done.instructions.within place there.0 there.1).reads (let lt = coded_target in omega (arith, lt))
 
   pub value_done : (v : ℤ) → IsSomeAnd (work_of c.opcode c.a c.b) (ComesTo values v)
-      → AreDoneTo code flows instant from (place + 1) s (cells_of (set values c.target v) (set stamps c.target instant) taken)
+      → AreDoneTo all flows instant from (place + 1) s (cells_of (set values c.target v) (set stamps c.target instant) taken)
   value_done v tells =
       let comes = comes_to (work_of c.opcode c.a c.b) values v there.0.work is_coded.work tells in
-      done_one_on code flows instant from s place (cells_of values stamps taken) done there.0 there.1 (cells_of (set values c.target v) (set stamps c.target instant) taken) (record {
+      done_one_on all flows instant from s place (cells_of values stamps taken) done there.0 there.1 (cells_of (set values c.target v) (set stamps c.target instant) taken) (record {
         value = v;
         gives = comes.value flows taken;
         leaves = same_cells (set values c.target v) (set values there.0.target v) (set stamps c.target instant) (set stamps there.0.target instant) taken (taken_after there.0.work taken)

@@ -5,7 +5,7 @@ use Rattle.sig_lists.proofs.Places.{get_map, some_at}
 use Rattle.sig_cells.specs.Prelude.{Node, truths_of}
 use Rattle.sig_cells.specs.Guards.{Scope}
 use Rattle.sig_cells.specs.Instants.{EndsAt, FailsAt, Handles, Stands, holds_at}
-use Rattle.sig_cells.specs.inner.Rows.{Does, GoesTo}
+use Rattle.sig_cells.specs.Rows.{Does, GoesTo}
 use Rattle.sig_cells.specs.Instructions.{Cells, registers_in}
 use Rattle.sig_cells.specs.inner.Ways.{AreDone, ArePassed, IsRun, guards_of}
 use Rattle.sig_cells.specs.declared.instruction.Instruction.{Instruction}

@@ -1,40 +1,27 @@
 -- Instructions under guards, in the form in which an instant goes over them.
-use Rattle.std.specs.Prelude.{◌≡◌, ◌<◌, ◌≤◌}
+use Rattle.std.specs.Prelude.{◌≡◌, ◌≤◌}
 use Rattle.sig_cells.specs.Prelude.{ℕ, ℤ, List, length, slice_get, Some, Holds, Node, Ref}
 use Rattle.sig_cells.specs.Guards.{AreBelow, AsksAmong, Scope, scope_of}
 use Rattle.sig_cells.specs.Instants.{EndsAt, Handles, Stands}
-use Rattle.sig_cells.specs.Instructions.{Cells, ReadsWithin}
+use Rattle.sig_cells.specs.Instructions.{Cells}
 use Rattle.sig_cells.specs.declared.react.Fault.{Fault}
-use Rattle.sig_cells.specs.Opcodes.{AreCoded}
+pub use Rattle.sig_cells.specs.Rows.{AreInstructions, AreWithin, IsWithin, listed}
 use Rattle.sig_cells.specs.inner.Ways.{AreRuns, AskAmong, AreWays, IsFirst, guards_of}
 use Rattle.sig_cells.specs.declared.code.Code.{Code}
 use Rattle.sig_cells.specs.declared.instruction.Instruction.{Instruction}
 
 -- the instructions, in their order
 abbrev pub instructions_in : Code → List Instruction
-instructions_in code = code.instructions.items
+instructions_in code = listed code.instructions
 
 -- their guards
 abbrev pub guards_in : Code → List Ref
 guards_in code = guards_of code.runs.items
 
--- an instruction reads and writes cells among so many, and takes an input among so many
-pub record IsWithin (inputs cells : ℕ) (instruction : Instruction) : Type 0 where
-  pub reads : ReadsWithin inputs cells instruction.work
-  pub target : instruction.target < cells
-
-abbrev pub AreWithin : ℕ → ℕ → List Instruction → Type 0
-AreWithin inputs cells instructions = (place : ℕ) (instruction : Instruction) → slice_get instructions place ≡ Some instruction → IsWithin inputs cells instruction
-
 -- Guards are functions of the nodes, and ask conditions alone.
 pub record AreGuards (scope : Scope) (guards : List Ref) : Type 0 where
   pub held : (place : ℕ) (guard : Ref) → slice_get guards place ≡ Some guard → Holds scope.nodes guard
   pub told : (place : ℕ) (guard : Ref) → slice_get guards place ≡ Some guard → AsksAmong scope.nodes scope.conditions guard
-
--- The instructions of a code are within, and the same by their opcodes.
-pub record AreInstructions (inputs cells : ℕ) (code : Code) : Type 0 where
-  pub within : AreWithin inputs cells (instructions_in code)
-  pub coded : AreCoded (instructions_in code) code.coded.items
 
 -- what the guards are told by, over nodes
 abbrev pub scope_in : List Node → Code → Scope
@@ -43,7 +30,7 @@ scope_in nodes code = scope_of nodes code.conditions.items code.signals
 -- A code over so many inputs and cells, whose guards are functions of nodes.
 pub record IsCode (nodes : List Node) (inputs cells : ℕ) (code : Code) : Type 0 where
   pub room : code.signals ≤ cells
-  pub instructions : AreInstructions inputs cells code
+  pub instructions : AreInstructions inputs cells code.instructions
   pub below : AreBelow code.signals code.conditions.items
   pub count : length code.runs.items ≡ length (instructions_in code)
   pub runs : AreRuns nodes code.runs.items

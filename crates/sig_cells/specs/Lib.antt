@@ -4,4 +4,5 @@ pub mod Guards
 pub mod Instants
 pub mod Instructions
 pub mod Opcodes
+pub mod Rows
 pub mod inner

@@ -5,8 +5,8 @@ ghost use Rattle.sig_cells.specs.Prelude.{ℕ, IfOk, length};
 ghost use Rattle.sig_cells.specs.Codes.{AreGuards, AreWithin, IsCode, guards_in, instructions_in};
 ghost use Rattle.sig_cells.specs.Guards.{AreBelow, scope_of};
 
-use crate::coded::{Coded, all_coded};
 use crate::instruction::Instruction;
+use crate::instructions::Instructions;
 use crate::runs::runs_of;
 use crate::stretches::{Run, Stretch, Ways};
 use crate::ways::{first_of, ways_of};
@@ -20,8 +20,7 @@ use std::alloc::{AllocError, Global};
 pub struct Code {
     pub(crate) signals: usize,
     pub(crate) conditions: Vec<SigId>,
-    pub(crate) instructions: Vec<Instruction>,
-    pub(crate) coded: Vec<Coded>,
+    pub(crate) instructions: Instructions,
     pub(crate) runs: Vec<Run>,
     pub(crate) first: Stretch,
     pub(crate) ways: Vec<Ways>,
@@ -47,7 +46,7 @@ impl Code {
         ensures code { IfOk result (λ code. (inputs cells : ℕ) → signals ≤ cells → AreWithin inputs cells instructions.items
             → IsCode store.now.nodes inputs cells code) }
     {
-        let coded = all_coded(alloc, &instructions)?;
+        let instructions = Instructions::new(alloc, instructions)?;
         let runs = runs_of(alloc, store, guards)?;
         let made = runs.as_slice();
         let first = first_of(store, conditions, signals, made);
@@ -56,7 +55,6 @@ impl Code {
             signals,
             conditions: Vec::from_slice(alloc, conditions)?,
             instructions,
-            coded,
             runs,
             first,
             ways,

@@ -9,6 +9,7 @@ mod coded;
 mod guard;
 mod implied;
 mod instruction;
+mod instructions;
 mod quick;
 mod react;
 mod row;
@@ -21,5 +22,5 @@ mod works;
 
 pub use code::Code;
 pub use instruction::{Instruction, Work};
-pub use quick::{quickly_of_one, quickly_of_two};
+pub use instructions::Instructions;
 pub use react::Fault;

@@ -38,7 +38,7 @@ pub(crate) fn value_by(opcode: Opcode, a: i64, b: i64) -> Option<i64>
 
 /// What a function gives of one value, or nothing, where it has a fault or is not among those told here.
 #[inline(always)]
-pub fn quickly_of_one(function: FunOp, a: i64) -> Option<i64>
+fn quickly_of_one(function: FunOp, a: i64) -> Option<i64>
     ensures { IfSome result (λ v. Ok v ≡ answered (computed no_equation (function_of function) (a ∷ []))) }
 {
     match function {
@@ -50,7 +50,7 @@ pub fn quickly_of_one(function: FunOp, a: i64) -> Option<i64>
 
 /// What a function gives of two values, or nothing, where it has a fault or is not among those told here.
 #[inline(always)]
-pub fn quickly_of_two(function: FunOp, a: i64, b: i64) -> Option<i64>
+fn quickly_of_two(function: FunOp, a: i64, b: i64) -> Option<i64>
     ensures { IfSome result (λ v. Ok v ≡ answered (computed no_equation (function_of function) (a ∷ b ∷ []))) }
 {
     match function {

@@ -2,25 +2,20 @@
 
 ghost use Rattle.std.specs.Prelude.{◌≡◌, ◌≤◌, ◌<◌};
 ghost use Rattle.sig_cells.specs.Prelude.{ℕ, List, IfErr, OnOk, length};
-ghost use Rattle.sig_cells.specs.Codes.{AreInstructions, EndsIn, HandlesAll, IsCode, StandsIn, instructions_in};
+ghost use Rattle.sig_cells.specs.Codes.{EndsIn, HandlesAll, IsCode, StandsIn, instructions_in};
 ghost use Rattle.sig_cells.specs.Instants.{FailsAt, Keeps};
-ghost use Rattle.sig_cells.specs.inner.Rows.{GoesTo, Stops};
+ghost use Rattle.sig_cells.specs.Rows.{AreInstructions, GoesTo, Stops};
 ghost use Rattle.sig_cells.specs.Instructions.{cells_of};
 ghost use Rattle.sig_cells.specs.inner.Tests.{is_end};
 
 use crate::code::Code;
 use crate::guard::View;
-use crate::quick::value_by;
-use crate::row::do_long;
 use crate::stretches::Stretch;
 use crate::test::Test;
-use crate::works::{come_to, do_one};
+use crate::works::come_to;
 use sig_dd::Store;
 use sig_kernel::Inputs;
 use sig_plan::Cause;
-
-/// From how many instructions on a stretch is long.
-const LONG: usize = 16;
 
 /// The first instruction of an instant that has no value: its place, and why it has none, where the equation that is named is
 /// none of its own.
@@ -83,12 +78,12 @@ impl Code {
     #[inline(never)]
     fn fault_at(&self, inputs: &Inputs, place: usize, cells: &[i64], taken: &[usize]) -> Fault
         requires within { place < length (instructions_in self.now) }
-        requires code { AreInstructions (length taken.now) (length cells.now) self.now }
+        requires code { AreInstructions (length taken.now) (length cells.now) self.now.instructions }
         requires stops { (stamps : List ℕ) → Stops (instructions_in self.now) inputs.now place (cells_of cells.now stamps taken.now) }
         ensures place { result.place ≡ place }
         ensures fails { (stamps : List ℕ) → FailsAt (instructions_in self.now) inputs.now place (cells_of cells.now stamps taken.now) result.cause }
     {
-        match come_to(self.instructions[place].work, inputs, cells, taken) {
+        match come_to(self.instructions.at(place).work, inputs, cells, taken) {
             // It has none.
             Ok(_) => Fault {
                 place,
@@ -109,7 +104,7 @@ impl Code {
         stamps: &mut [u32],
         taken: &mut [usize],
     ) -> usize
-        requires code { AreInstructions (length taken.old) (length cells.old) self.now }
+        requires code { AreInstructions (length taken.old) (length cells.old) self.now.instructions }
         requires stamps { length stamps.old ≡ length cells.old }
         requires forth { stretch.now.from ≤ stretch.now.to }
         requires within { stretch.now.to ≤ length (instructions_in self.now) }
@@ -119,56 +114,15 @@ impl Code {
         ensures stops { result < stretch.now.to → Stops (instructions_in self.now) inputs.now result (cells_of cells.new stamps.new taken.new) }
         ensures keeps { Keeps (instructions_in self.now) instant (cells_of cells.old stamps.old taken.old) (cells_of cells.new stamps.new taken.new) }
     {
-        let from = stretch.from;
-        let to = stretch.to;
-        if to - from >= LONG {
-            do_long(self, inputs, from, to, instant, cells, stamps, taken)
-        } else {
-            self.do_short(inputs, from, to, instant, cells, stamps, taken)
-        }
-    }
-
-    /// Does the instructions from a place up to another one, or to one that has no value, and gives the place that it comes to.
-    #[inline(always)]
-    fn do_short(
-        &self,
-        inputs: &Inputs,
-        from: usize,
-        to: usize,
-        instant: u32,
-        cells: &mut [i64],
-        stamps: &mut [u32],
-        taken: &mut [usize],
-    ) -> usize
-        requires code { AreInstructions (length taken.old) (length cells.old) self.now }
-        requires stamps { length stamps.old ≡ length cells.old }
-        requires forth { from ≤ to }
-        requires within { to ≤ length (instructions_in self.now) }
-        ensures later { from ≤ result }
-        ensures within { result ≤ to }
-        ensures goes { GoesTo (instructions_in self.now) inputs.now instant from result (cells_of cells.old stamps.old taken.old) (cells_of cells.new stamps.new taken.new) }
-        ensures stops { result < to → Stops (instructions_in self.now) inputs.now result (cells_of cells.new stamps.new taken.new) }
-        ensures keeps { Keeps (instructions_in self.now) instant (cells_of cells.old stamps.old taken.old) (cells_of cells.new stamps.new taken.new) }
-    {
-        let coded = self.coded.as_slice();
-        let mut left = to - from;
-        while left > 0 {
-            let one = coded[to - left];
-            match value_by(one.opcode, cells[one.a as usize], cells[one.b as usize]) {
-                Some(value) => {
-                    cells[one.target as usize] = value;
-                    stamps[one.target as usize] = instant;
-                }
-                None => {
-                    let instruction = &self.instructions[to - left];
-                    if !do_one(instruction, inputs, instant, cells, stamps, taken) {
-                        return to - left;
-                    }
-                }
-            }
-            left -= 1;
-        }
-        to
+        self.instructions.execute(
+            inputs,
+            stretch.from,
+            stretch.to,
+            instant,
+            cells,
+            stamps,
+            taken,
+        )
     }
 }
 

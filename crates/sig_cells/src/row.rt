@@ -2,15 +2,17 @@
 
 ghost use Rattle.std.specs.Prelude.{◌≡◌, ◌<◌, ◌≤◌};
 ghost use Rattle.sig_cells.specs.Prelude.{length};
-ghost use Rattle.sig_cells.specs.Codes.{AreInstructions, instructions_in};
+ghost use Rattle.sig_cells.specs.Rows.{AreInstructions, GoesTo, Stops, listed};
 ghost use Rattle.sig_cells.specs.Instants.{Keeps};
-ghost use Rattle.sig_cells.specs.inner.Rows.{GoesTo, Stops};
 ghost use Rattle.sig_cells.specs.Instructions.{cell, cells_of};
 
-use crate::code::Code;
+use crate::instructions::Instructions;
 use crate::quick::value_by;
 use crate::works::do_one;
 use sig_kernel::Inputs;
+
+/// From how many instructions on a row is long.
+const LONG: usize = 16;
 
 /// The cell that was written last, at first the first one, and its value, which the next instruction often reads.
 #[derive(Clone, Copy)]
@@ -19,11 +21,86 @@ struct Newest {
     value: i64,
 }
 
+impl Instructions {
+    /// Does the instructions from a place up to another one, or to one that has no value, whatever their guards are, and gives
+    /// the place that it comes to. It takes no memory.
+    #[inline(always)]
+    pub fn execute(
+        &self,
+        inputs: &Inputs,
+        from: usize,
+        to: usize,
+        instant: u32,
+        cells: &mut [i64],
+        stamps: &mut [u32],
+        taken: &mut [usize],
+    ) -> usize
+        requires code { AreInstructions (length taken.old) (length cells.old) self.now }
+        requires stamps { length stamps.old ≡ length cells.old }
+        requires forth { from ≤ to }
+        requires within { to ≤ length (listed self.now) }
+        ensures later { from ≤ result }
+        ensures within { result ≤ to }
+        ensures goes { GoesTo (listed self.now) inputs.now instant from result (cells_of cells.old stamps.old taken.old) (cells_of cells.new stamps.new taken.new) }
+        ensures stops { result < to → Stops (listed self.now) inputs.now result (cells_of cells.new stamps.new taken.new) }
+        ensures keeps { Keeps (listed self.now) instant (cells_of cells.old stamps.old taken.old) (cells_of cells.new stamps.new taken.new) }
+    {
+        if to - from >= LONG {
+            do_long(self, inputs, from, to, instant, cells, stamps, taken)
+        } else {
+            self.do_short(inputs, from, to, instant, cells, stamps, taken)
+        }
+    }
+
+    /// Does the instructions from a place up to another one, or to one that has no value, and gives the place that it comes to.
+    #[inline(always)]
+    fn do_short(
+        &self,
+        inputs: &Inputs,
+        from: usize,
+        to: usize,
+        instant: u32,
+        cells: &mut [i64],
+        stamps: &mut [u32],
+        taken: &mut [usize],
+    ) -> usize
+        requires code { AreInstructions (length taken.old) (length cells.old) self.now }
+        requires stamps { length stamps.old ≡ length cells.old }
+        requires forth { from ≤ to }
+        requires within { to ≤ length (listed self.now) }
+        ensures later { from ≤ result }
+        ensures within { result ≤ to }
+        ensures goes { GoesTo (listed self.now) inputs.now instant from result (cells_of cells.old stamps.old taken.old) (cells_of cells.new stamps.new taken.new) }
+        ensures stops { result < to → Stops (listed self.now) inputs.now result (cells_of cells.new stamps.new taken.new) }
+        ensures keeps { Keeps (listed self.now) instant (cells_of cells.old stamps.old taken.old) (cells_of cells.new stamps.new taken.new) }
+    {
+        let coded = self.coded.as_slice();
+        let mut left = to - from;
+        while left > 0 {
+            let one = coded[to - left];
+            match value_by(one.opcode, cells[one.a as usize], cells[one.b as usize]) {
+                Some(value) => {
+                    cells[one.target as usize] = value;
+                    stamps[one.target as usize] = instant;
+                }
+                None => {
+                    let instruction = &self.listed[to - left];
+                    if !do_one(instruction, inputs, instant, cells, stamps, taken) {
+                        return to - left;
+                    }
+                }
+            }
+            left -= 1;
+        }
+        to
+    }
+}
+
 /// Does the instructions of a long stretch, up to one that has no value, and gives the place that it comes to.
 #[cold]
 #[inline(never)]
-pub(crate) fn do_long(
-    code: &Code,
+fn do_long(
+    all: &Instructions,
     inputs: &Inputs,
     from: usize,
     to: usize,
@@ -32,23 +109,23 @@ pub(crate) fn do_long(
     stamps: &mut [u32],
     taken: &mut [usize],
 ) -> usize
-    requires code { AreInstructions (length taken.old) (length cells.old) code.now }
+    requires code { AreInstructions (length taken.old) (length cells.old) all.now }
     requires stamps { length stamps.old ≡ length cells.old }
     requires forth { from ≤ to }
-    requires within { to ≤ length (instructions_in code.now) }
+    requires within { to ≤ length (listed all.now) }
     ensures later { from ≤ result }
     ensures within { result ≤ to }
-    ensures goes { GoesTo (instructions_in code.now) inputs.now instant from result (cells_of cells.old stamps.old taken.old) (cells_of cells.new stamps.new taken.new) }
-    ensures stops { result < to → Stops (instructions_in code.now) inputs.now result (cells_of cells.new stamps.new taken.new) }
-    ensures keeps { Keeps (instructions_in code.now) instant (cells_of cells.old stamps.old taken.old) (cells_of cells.new stamps.new taken.new) }
+    ensures goes { GoesTo (listed all.now) inputs.now instant from result (cells_of cells.old stamps.old taken.old) (cells_of cells.new stamps.new taken.new) }
+    ensures stops { result < to → Stops (listed all.now) inputs.now result (cells_of cells.new stamps.new taken.new) }
+    ensures keeps { Keeps (listed all.now) instant (cells_of cells.old stamps.old taken.old) (cells_of cells.new stamps.new taken.new) }
 {
     let mut place = from;
     loop {
-        place = do_row(code, inputs, place, to, instant, cells, stamps, taken);
+        place = do_row(all, inputs, place, to, instant, cells, stamps, taken);
         if place >= to {
             return to;
         }
-        let instruction = &code.instructions[place];
+        let instruction = &all.listed[place];
         if !do_one(instruction, inputs, instant, cells, stamps, taken) {
             return place;
         }
@@ -60,7 +137,7 @@ pub(crate) fn do_long(
 /// stops.
 #[inline(always)]
 fn do_row(
-    code: &Code,
+    all: &Instructions,
     _inputs: &Inputs,
     from: usize,
     to: usize,
@@ -69,16 +146,16 @@ fn do_row(
     stamps: &mut [u32],
     _taken: &[usize],
 ) -> usize
-    requires code { AreInstructions (length _taken.now) (length cells.old) code.now }
+    requires code { AreInstructions (length _taken.now) (length cells.old) all.now }
     requires stamps { length stamps.old ≡ length cells.old }
     requires before { from ≤ to }
-    requires within { to ≤ length (instructions_in code.now) }
+    requires within { to ≤ length (listed all.now) }
     ensures later { from ≤ result }
     ensures within { result ≤ to }
-    ensures goes { GoesTo (instructions_in code.now) _inputs.now instant from result (cells_of cells.old stamps.old _taken.now) (cells_of cells.new stamps.new _taken.now) }
-    ensures keeps { Keeps (instructions_in code.now) instant (cells_of cells.old stamps.old _taken.now) (cells_of cells.new stamps.new _taken.now) }
+    ensures goes { GoesTo (listed all.now) _inputs.now instant from result (cells_of cells.old stamps.old _taken.now) (cells_of cells.new stamps.new _taken.now) }
+    ensures keeps { Keeps (listed all.now) instant (cells_of cells.old stamps.old _taken.now) (cells_of cells.new stamps.new _taken.now) }
 {
-    let coded = code.coded.as_slice();
+    let coded = all.coded.as_slice();
     let mut newest = Newest {
         cell: 0,
         value: first_value(cells),

@@ -1,17 +1,11 @@
 -- What an actor does on its machine.
-use Rattle.sig_machine.proofs.Common.{◌≡◌, ◌<◌, ◌≤◌, ◌+◌, ◌∙◌, inl, inr, Bool, true, false, ℕ, ℤ, List, [], length, slice_get, Option, None, Some, IfSome, refl, sym, ap, subst, arith, get_within, SigId, Kernel, PlanView, Op, Compute, Actor, Registers, code_of, input_of, is_one, operated, outcome, truths_of, with_at, with_signal, IsFor, IsTarget, HasShape, IsKept, IsPut, ReadsWithin, as_named, input_taken, named, FaultsWith, IsDoneWith, given, told_at, AreVariables, HasActor, IsOpOfStep, IsStepDone, actor_in, seen_in, ActorMachine, Instruction, Work, Next, Copy, One, Two, Machine}
-use Rattle.sig_machine.proofs.OneInstruction.{gives_it}
+use Rattle.sig_machine.proofs.Common.{◌≡◌, ◌<◌, ◌≤◌, ◌∙◌, inl, inr, Bool, true, ℕ, ℤ, List, [], length, slice_get, Option, None, Some, IfSome, refl, sym, ap, subst, arith, get_within, SigId, PlanView, Op, Compute, Actor, Registers, code_of, input_of, is_one, operated, outcome, truths_of, with_at, with_signal, IsFor, IsTarget, HasShape, IsKept, IsPut, ReadsWithin, as_named, input_taken, named, came_to, answered, Ok, Err, Cause, HasFault, AreForSteps, AreInstructions, AreNextTold, Instructions, listed, told_at, AreVariables, HasActor, IsOpOfStep, IsStepDone, actor_in, seen_in, ActorMachine, Instruction, Work, Next, Copy, One, Two, Machine}
+use Rattle.sig_machine.proofs.OneInstruction.{faults_it, gives_it}
 use Rattle.sig_machine.proofs.FollowedInstructions.{kept_by}
-use Rattle.sig_machine.proofs.LeftValues.{behind, machine_behind}
-use Rattle.sig_machine.proofs.Presence.{given_outcome}
+use Rattle.sig_machine.proofs.LeftValues.{absent_behind, behind, machine_behind}
+use Rattle.sig_machine.proofs.Presence.{outcome_here}
 use Rattle.sig_machine.proofs.Shapes.{shaped}
 use Rattle.sig_machine.proofs.Told.{told_none, told_signal, truths_count}
-
-more_inputs : (few many cells : ℕ) (work : Work) → few ≤ many → ReadsWithin few cells work → ReadsWithin many cells work
-more_inputs few many cells (Next input) more within = omega (arith, more, within)
-more_inputs few many cells (Copy source) more within = within
-more_inputs few many cells (One function a) more within = within
-more_inputs few many cells (Two function a b) more within = within
 
 pub taken_within : (inputs cells : ℕ) (work : Work) → ReadsWithin inputs cells work → IfSome (input_taken work) (λ x. x.0 < inputs)
 taken_within inputs cells (Next input) within = within
@@ -19,16 +13,32 @@ taken_within inputs cells (Copy source) within = tt
 taken_within inputs cells (One function a) within = tt
 taken_within inputs cells (Two function a b) within = tt
 
-target_below : (kernel : Kernel) (op : Op) (target : ℕ) → IsTarget kernel op target → target < length kernel.signals + length kernel.signals
-target_below kernel op target (inl (x, writes, none, below, same)) = omega (arith, below, same)
-target_below kernel op target (inr (y, writes, some, below, same)) = omega (arith, below, same)
+-- nothing but the machine and the truths changed
+abbrev pub IsOnMachine : ActorMachine → ActorMachine → Type 0
+IsOnMachine old new = new ≡ record old { machine = new.machine; truths = new.truths }
+
+module _ (old new : ActorMachine) (rest : IsOnMachine old new) where
+  pub same_instructions : new.instructions ≡ old.instructions
+  same_instructions = ap (λ (a : ActorMachine). a.instructions) rest
+
+  pub same_variables : new.variables.items ≡ old.variables.items
+  same_variables = ap (λ (a : ActorMachine). a.variables.items) rest
+
+  pub next_as_before : AreNextTold (listed old.instructions) old.variables.items old.next_told.items → AreNextTold (listed new.instructions) new.variables.items new.next_told.items
+  next_as_before is = subst (λ (a : ActorMachine). AreNextTold (listed a.instructions) a.variables.items a.next_told.items) (sym rest) is
 
 module _ (plan : PlanView) (k : ℕ) (flows : List (List ℤ)) (old : ActorMachine) (is : HasActor plan k flows old) where
   pub stamps_same : length old.machine.stamps.items ≡ length old.machine.cells.items
   stamps_same = is.machine.stamps ∙ sym is.machine.cells
 
-  signals_there : old.machine.signals ≤ length old.machine.cells.items
-  signals_there = let a = is.machine.signals in let b = is.machine.cells in let r = is.room in omega (arith, a, b, r)
+  -- the instructions are within what the machine has
+  pub instructions_here : AreInstructions (length old.machine.taken.items) (length old.machine.cells.items) old.instructions
+  instructions_here =
+      subst (λ n. AreInstructions n (length old.machine.cells.items) old.instructions) (sym is.machine.inputs)
+      (subst (λ n. AreInstructions (length flows) n old.instructions) (sym is.machine.cells) is.instructions)
+
+  signals_there : old.machine.signals ≤ length old.machine.stamps.items
+  signals_there = let a = is.machine.signals in let b = is.machine.stamps in let r = is.room in omega (arith, a, b, r)
 
   -- what the keeping of truths needs
   pub tells : (conditions : List SigId) × (signals : ℕ) × AreVariables conditions signals old.variables.items × (length old.truths.items ≡ length conditions)
@@ -38,8 +48,7 @@ module _ (plan : PlanView) (k : ℕ) (flows : List (List ℤ)) (old : ActorMachi
 
   module _ (op : Op) (instruction : Instruction) (target : IsTarget plan.kernel op instruction.target) (takes : input_taken instruction.work ≡ input_of op.kind)
       (within : IfSome (input_taken instruction.work) (λ x. x.0 < length old.machine.taken.items)) (v : ℤ) (new : ActorMachine) (kept : IsKept instruction v old.machine new.machine)
-      (instructions : new.instructions.items ≡ old.instructions.items) (variables : new.variables.items ≡ old.variables.items)
-      (truths : new.truths.items ≡ told_at (slice_get old.variables.items instruction.target) (is_one v) old.truths.items) where
+      (rest : IsOnMachine old new) where
     pub actor_behind : (step : ℕ) → actor_in new step ≡ operated plan.kernel op v (actor_in old step)
     actor_behind step = behind plan.kernel is.constants is.room flows old.machine is.machine op instruction target v new.machine kept takes within step
 
@@ -59,17 +68,25 @@ module _ (plan : PlanView) (k : ℕ) (flows : List (List ℤ)) (old : ActorMachi
         told_none old.variables.items (length plan.kernel.signals) instruction.target (is_one v) (truths_of plan.clocks.conditions (seen_in old)) is.table.count (omega (arith, same))
         ∙ ap (truths_of plan.clocks.conditions) (sym (registers_behind ∙ ap (λ (o : Option SigId). with_signal o (Some v) (seen_in old)) writes))
 
-    pub is_behind : HasActor plan k flows new
-    is_behind = record {
+    -- what is told of the value is what the conditions are then
+    pub told_behind : told_at (slice_get old.variables.items instruction.target) (is_one v) old.truths.items ≡ truths_of plan.clocks.conditions (seen_in new)
+    told_behind = ap (told_at (slice_get old.variables.items instruction.target) (is_one v)) is.told ∙ told_by target
+
+    pub is_behind : new.truths.items ≡ truths_of plan.clocks.conditions (seen_in new) → HasActor plan k flows new
+    is_behind told = record {
       accepted = is.accepted;
       constants = is.constants;
       room = is.room;
       machine = machine_behind plan.kernel is.constants is.room flows old.machine is.machine op instruction target v new.machine kept;
+      absent = absent_behind plan.kernel is.constants is.room flows old.machine is.machine op instruction target v new.machine kept is.absent;
+      last = ap (λ (a : ActorMachine). length a.last.items) rest ∙ is.last;
       inputs = is.inputs;
-      count = ap length instructions ∙ is.count;
-      each = λ number step other at there. is.each number step other at (ap (λ (xs : List Instruction). slice_get xs number) (sym instructions) ∙ there);
-      table = subst (AreVariables plan.clocks.conditions (length plan.kernel.signals)) (sym variables) is.table;
-      told = truths ∙ ap (told_at (slice_get old.variables.items instruction.target) (is_one v)) is.told ∙ told_by target;
+      instructions = subst (AreInstructions (length flows) (length is.constants)) (sym (same_instructions old new rest)) is.instructions;
+      count = ap (λ (all : Instructions). length (listed all)) (same_instructions old new rest) ∙ is.count;
+      each = subst (λ (all : Instructions). AreForSteps plan (code_of plan k).steps is.constants (listed all)) (sym (same_instructions old new rest)) is.each;
+      table = subst (AreVariables plan.clocks.conditions (length plan.kernel.signals)) (sym (same_variables old new rest)) is.table;
+      next = next_as_before old new rest is.next;
+      told = told;
     }
 
   -- ---- the register of a signal
@@ -93,66 +110,58 @@ module _ (plan : PlanView) (k : ℕ) (flows : List (List ℤ)) (old : ActorMachi
       target : IsTarget plan.kernel writer x.0
       target = inl (x, refl, refl, below, refl)
 
+      same : new.machine ≡ M
+      same = ap (λ (a : ActorMachine). a.machine) stays
+
+      rest : IsOnMachine old new
+      rest = stays ∙ ap (λ (m : Machine). let a : ActorMachine = record old { machine = m; truths = new.truths } in a) (sym same)
+
       kept : IsKept copy v old.machine new.machine
-      kept = subst (IsKept copy v old.machine) (sym (ap (λ (a : ActorMachine). a.machine) stays)) (kept_by copy v old.machine M put refl)
+      kept = subst (IsKept copy v old.machine) (sym same) (kept_by copy v old.machine M put refl)
 
       pub seen_written : seen_in new ≡ with_at x.0 (Some v) (seen_in old)
-      seen_written =
-          registers_behind writer copy target refl tt v new kept (ap (λ (a : ActorMachine). a.instructions.items) stays) (ap (λ (a : ActorMachine). a.variables.items) stays) truths
+      seen_written = registers_behind writer copy target refl tt v new kept rest
 
       pub actor_written : (step : ℕ) → actor_in new step ≡ record (actor_in old step) { registers = with_at x.0 (Some v) (seen_in old) }
-      actor_written step =
-          actor_behind writer copy target refl tt v new kept (ap (λ (a : ActorMachine). a.instructions.items) stays) (ap (λ (a : ActorMachine). a.variables.items) stays) truths step
+      actor_written step = actor_behind writer copy target refl tt v new kept rest step
 
       pub is_written : HasActor plan k flows new
-      is_written = is_behind writer copy target refl tt v new kept (ap (λ (a : ActorMachine). a.instructions.items) stays) (ap (λ (a : ActorMachine). a.variables.items) stays) truths
+      is_written = is_behind writer copy target refl tt v new kept rest (truths ∙ told_behind writer copy target refl tt v new kept rest)
 
   -- ---- a step that does an operation
 
-  pub instruction_there : (number : ℕ) (op : Op) → IsOpOfStep plan k number op → number < length old.instructions.items
+  pub instruction_there : (number : ℕ) (op : Op) → IsOpOfStep plan k number op → number < length (listed old.instructions)
   instruction_there number op does = let c = is.count in let w = get_within (code_of plan k).steps number does.step does.is in omega (arith, c, w)
 
-  module _ (number : ℕ) (op : Op) (does : IsOpOfStep plan k number op) (instruction : Instruction) (at : slice_get old.instructions.items number ≡ Some instruction) where
+  module _ (number : ℕ) (op : Op) (does : IsOpOfStep plan k number op) (instruction : Instruction) (at : slice_get (listed old.instructions) number ≡ Some instruction) where
     for_op : IsFor plan.kernel is.constants op instruction
     for_op = is.each number does.step instruction does.is at op does.does
 
     shape : HasShape plan.kernel op
     shape = shaped plan is.accepted does.does.number.0 op does.does.is
 
-    pub step_reads : ReadsWithin (length old.machine.taken.items) (length old.machine.cells.items) instruction.work
-    step_reads =
-        subst (λ n. ReadsWithin (length old.machine.taken.items) n instruction.work) (sym is.machine.cells)
-        (more_inputs plan.kernel.inputs (length old.machine.taken.items) (length is.constants) instruction.work (let a = is.inputs in let b = is.machine.inputs in omega (arith, a, b)) for_op.work.reads)
+    step_reads : ReadsWithin (length old.machine.taken.items) (length old.machine.cells.items) instruction.work
+    step_reads = (instructions_here.within number instruction at).reads
 
-    pub step_target : instruction.target < length old.machine.cells.items
-    step_target = let a = target_below plan.kernel op instruction.target for_op.target in let b = is.machine.cells in let r = is.room in omega (arith, a, b, r)
+    comes : (step : ℕ) → as_named op.eq (came_to flows old.machine instruction.work) ≡ outcome plan.kernel flows (actor_in old step) op
+    comes step = outcome_here old.machine signals_there is.absent plan.kernel is.constants op instruction.work for_op.work is.machine.signals is.machine.constants shape.within flows step
 
-    comes : (step : ℕ) → as_named op.eq (given flows old.machine instruction.work) ≡ outcome plan.kernel flows (actor_in old step) op
-    comes step = given_outcome old.machine signals_there stamps_same plan.kernel is.constants op instruction.work for_op.work is.machine.signals is.machine.constants shape.within flows step
+    pub step_faults : (cause : Cause) → Err cause ≡ answered (came_to flows old.machine instruction.work) → HasFault plan.kernel flows op old
+    step_faults cause fails = (named op.eq cause, λ step. sym (comes step) ∙ ap (as_named op.eq) (faults_it (came_to flows old.machine instruction.work) cause fails))
 
-    pub step_fails : FaultsWith flows instruction.work old.machine → (new : ActorMachine) → new ≡ old → IsStepDone plan.kernel flows op false old new
-    step_fails (cause, faults) new same = (named op.eq cause, λ step. sym (comes step) ∙ ap (as_named op.eq) faults, same)
-
-    module _ (v : ℤ) (M : Machine) (done : IsDoneWith flows instruction v old.machine M) (new : ActorMachine) (stays : new ≡ record old { machine = M; truths = new.truths })
-        (truths : new.truths.items ≡ told_at (slice_get old.variables.items instruction.target) (is_one v) old.truths.items) where
-      kept_here : IsKept instruction v old.machine new.machine
-      kept_here = subst (IsKept instruction v old.machine) (sym (ap (λ (a : ActorMachine). a.machine) stays)) done.kept
-
-      same_instructions : new.instructions.items ≡ old.instructions.items
-      same_instructions = ap (λ (a : ActorMachine). a.instructions.items) stays
-
-      same_variables : new.variables.items ≡ old.variables.items
-      same_variables = ap (λ (a : ActorMachine). a.variables.items) stays
-
+    module _ (v : ℤ) (gives : Ok v ≡ answered (came_to flows old.machine instruction.work)) (new : ActorMachine) (kept : IsKept instruction v old.machine new.machine) (rest : IsOnMachine old new) where
       within : IfSome (input_taken instruction.work) (λ x. x.0 < length old.machine.taken.items)
       within = taken_within (length old.machine.taken.items) (length old.machine.cells.items) instruction.work step_reads
 
       pub step_done : IsStepDone plan.kernel flows op true old new
       step_done = (
         v,
-        λ step. sym (comes step) ∙ ap (as_named op.eq) (gives_it (given flows old.machine instruction.work) v done.gives),
-        actor_behind op instruction for_op.target for_op.work.takes within v new kept_here same_instructions same_variables truths,
+        λ step. sym (comes step) ∙ ap (as_named op.eq) (gives_it (came_to flows old.machine instruction.work) v gives),
+        actor_behind op instruction for_op.target for_op.work.takes within v new kept rest,
       )
 
-      pub step_is : HasActor plan k flows new
-      step_is = is_behind op instruction for_op.target for_op.work.takes within v new kept_here same_instructions same_variables truths
+      pub step_told : told_at (slice_get old.variables.items instruction.target) (is_one v) old.truths.items ≡ truths_of plan.clocks.conditions (seen_in new)
+      step_told = told_behind op instruction for_op.target for_op.work.takes within v new kept rest
+
+      pub step_is : new.truths.items ≡ truths_of plan.clocks.conditions (seen_in new) → HasActor plan k flows new
+      step_is = is_behind op instruction for_op.target for_op.work.takes within v new kept rest

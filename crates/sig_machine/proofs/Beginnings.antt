@@ -1,5 +1,6 @@
 -- The machine of an actor at the opening, and in the next instant.
-use Rattle.sig_machine.proofs.Common.{◌≡◌, ◌≤◌, ◌+◌, ◌∙◌, ℕ, ℤ, false, List, length, replicate, slice_get, slice_index_or, Some, refl, sym, ap, subst, arith, length-replicate, Actor, AreFlowsFor, IsAccepted, PlanView, at_next, code_of, fitting, flow_count, initial_in, no_registers, opening_actor, truths_of, actor_at, cell, memories_at, memories_of, registers_of, taken_of, AreForSteps, AreVariables, HasActor, actor_in, seen_in, truths_in, IsMachineFor, ActorMachine, Instruction, Machine}
+use Rattle.sig_machine.proofs.Common.{◌≡◌, ◌≤◌, ◌+◌, ◌∙◌, ℕ, ℤ, false, List, length, replicate, slice_get, slice_index_or, Some, refl, sym, ap, subst, arith, length-replicate, Actor, AreFlowsFor, IsAccepted, PlanView, at_next, code_of, fitting, flow_count, initial_in, no_registers, opening_actor, truths_of, actor_at, cell, memories_at, memories_of, registers_of, taken_of, AreForSteps, AreVariables, HasActor, actor_in, seen_in, truths_in, IsMachineFor, ActorMachine, Machine, AbsentAreZero, AreInstructions, AreNextTold, AreZero, Begins, if◌then◌else◌, listed, nat_lt, pos}
+use Rattle.sig_machine.proofs.StepsWithMoreConstants.{are_within_more}
 use Rattle.sig_machine.proofs.Openings.{none_written, replicate_get, replicate_or}
 use Rattle.sig_machine.proofs.Told.{no_truths, truths_cleared}
 
@@ -12,10 +13,14 @@ module _ (plan : PlanView) (accepted : IsAccepted plan) (k : ℕ) (flows : List 
   none : registers_of a.machine ≡ no_registers
   none = none_written a.machine (λ number stamp there. let zero = unstamped number stamp there in omega (arith, zero, instant))
 
-  pub opens : length plan.kernel.signals + length plan.kernel.signals ≤ length constants → length a.instructions.items ≡ length (code_of plan k).steps
-      → AreForSteps plan (code_of plan k).steps constants a.instructions.items → AreVariables plan.clocks.conditions (length plan.kernel.signals) a.variables.items
-      → truths_in a ≡ replicate (length plan.clocks.conditions) false → HasActor plan k flows a
-  opens room count each table truths = record {
+  inputs_there : plan.kernel.inputs ≤ length flows
+  inputs_there = let count = flow_count (fitting plan accepted flows fit) in omega (arith, count)
+
+  pub opens : length plan.kernel.signals + length plan.kernel.signals ≤ length constants → AreZero (length plan.kernel.signals) constants → length a.last.items ≡ length constants
+      → AreInstructions plan.kernel.inputs (length constants) a.instructions → length (listed a.instructions) ≡ length (code_of plan k).steps
+      → AreForSteps plan (code_of plan k).steps constants (listed a.instructions) → AreVariables plan.clocks.conditions (length plan.kernel.signals) a.variables.items
+      → AreNextTold (listed a.instructions) a.variables.items a.next_told.items → truths_in a ≡ replicate (length plan.clocks.conditions) false → HasActor plan k flows a
+  opens room cleared last instructions count each table next truths = record {
     accepted = accepted;
     constants = constants;
     room = room;
@@ -27,10 +32,14 @@ module _ (plan : PlanView) (accepted : IsAccepted plan) (k : ℕ) (flows : List 
       inputs = ap length taken ∙ length-replicate (length flows) 0;
       past = λ number stamp there. let zero = unstamped number stamp there in omega (arith, zero);
     };
-    inputs = let count = flow_count (fitting plan accepted flows fit) in omega (arith, count);
+    absent = λ signal below absent. ap (λ xs. cell xs signal) cells ∙ cleared signal (omega (arith, below, signals));
+    last = last;
+    inputs = inputs_there;
+    instructions = record { within = are_within_more plan.kernel.inputs (length flows) (length constants) (listed a.instructions) inputs_there instructions.within; coded = instructions.coded };
     count = count;
     each = each;
     table = table;
+    next = next;
     told = truths ∙ sym (no_truths plan.clocks.conditions) ∙ ap (truths_of plan.clocks.conditions) (sym none);
   }
 
@@ -43,36 +52,44 @@ module _ (plan : PlanView) (accepted : IsAccepted plan) (k : ℕ) (flows : List 
 
 -- in the next instant
 module _ (plan : PlanView) (k : ℕ) (flows : List (List ℤ)) (old new : ActorMachine) (is : HasActor plan k flows old)
-    (machine : new.machine ≡ record old.machine { instant = old.machine.instant + 1 }) where
+    (machine : new.machine ≡ record old.machine { instant = old.machine.instant + 1; cells = new.machine.cells })
+    (begins : Begins old.machine.signals old.machine.cells.items new.machine.cells.items) where
   abbrev later : Machine
-  later = record old.machine { instant = old.machine.instant + 1 }
+  later = record old.machine { instant = old.machine.instant + 1; cells = new.machine.cells }
 
   none_later : registers_of later ≡ no_registers
   none_later = none_written later (λ number stamp there. let past = is.machine.past number stamp there in omega (arith, past))
 
+  memory_later : (signal : ℕ) → memories_of later signal ≡ memories_of old.machine signal
+  memory_later signal = ap (λ v. if nat_lt signal old.machine.signals then v else pos 0) (begins.others (old.machine.signals + signal) (omega arith))
+
   pub next_actor : (step : ℕ) → actor_in new 0 ≡ at_next (actor_in old step)
   next_actor step =
-      let next : actor_at later 0 ≡ at_next (actor_in old step) = λ j. let actor : Actor = record (actor_at later 0) { registers = none_later j } in actor in
+      let next : actor_at later 0 ≡ at_next (actor_in old step) = λ j. let actor : Actor = record (actor_at later 0) { registers = none_later j; memories = λ signal. memory_later signal j } in actor in
       ap (λ (m : Machine). actor_at m 0) machine ∙ next
 
-  pub next_is : new.instructions.items ≡ old.instructions.items → new.variables.items ≡ old.variables.items → truths_in new ≡ replicate (length (truths_in old)) false
+  pub next_is : new ≡ record old { machine = new.machine; last = new.last; truths = new.truths } → new.last.items ≡ old.machine.cells.items → truths_in new ≡ replicate (length (truths_in old)) false
       → HasActor plan k flows new
-  next_is instructions variables truths = record {
+  next_is rest last truths = record {
     accepted = is.accepted;
     constants = is.constants;
     room = is.room;
     machine = subst (λ (m : Machine). IsMachineFor (length plan.kernel.signals) is.constants flows m) (sym machine) (record {
       signals = is.machine.signals;
-      cells = is.machine.cells;
+      cells = begins.count ∙ is.machine.cells;
       stamps = is.machine.stamps;
-      constants = is.machine.constants;
+      constants = λ number behind within. begins.others number (omega (arith, behind)) ∙ is.machine.constants number behind within;
       inputs = is.machine.inputs;
       past = λ number stamp there. let before = is.machine.past number stamp there in omega (arith, before);
     });
+    absent = subst (λ (m : Machine). AbsentAreZero m) (sym machine) (λ signal below none. begins.zero signal below);
+    last = ap length last ∙ is.machine.cells;
     inputs = is.inputs;
-    count = ap length instructions ∙ is.count;
-    each = λ number step other at there. is.each number step other at (ap (λ (xs : List Instruction). slice_get xs number) (sym instructions) ∙ there);
-    table = subst (AreVariables plan.clocks.conditions (length plan.kernel.signals)) (sym variables) is.table;
+    instructions = subst (λ (a : ActorMachine). AreInstructions (length flows) (length is.constants) a.instructions) (sym rest) is.instructions;
+    count = ap (λ (a : ActorMachine). length (listed a.instructions)) rest ∙ is.count;
+    each = subst (λ (a : ActorMachine). AreForSteps plan (code_of plan k).steps is.constants (listed a.instructions)) (sym rest) is.each;
+    table = subst (λ (a : ActorMachine). AreVariables plan.clocks.conditions (length plan.kernel.signals) a.variables.items) (sym rest) is.table;
+    next = subst (λ (a : ActorMachine). AreNextTold (listed a.instructions) a.variables.items a.next_told.items) (sym rest) is.next;
     told =
         truths ∙ truths_cleared plan.clocks.conditions (seen_in old) (truths_in old) is.told
         ∙ ap (truths_of plan.clocks.conditions) (sym (ap registers_of machine ∙ none_later));

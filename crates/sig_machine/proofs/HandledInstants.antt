@@ -1,8 +1,8 @@
 -- An instant of a plan, as its code handles it.
-use Rattle.sig_machine.proofs.Common.{◌≡◌, ◌<◌, ◌≤◌, ◌+◌, ◌∙◌, inl, inr, ℕ, zero, suc, ℤ, Bool, true, false, List, length, Some, Ok, Err, refl, sym, ap, subst, arith, set, slice_get, slice_index_or, length-set, get_within, Actor, AreFlowsFor, Instant, IsAccepted, IsAmid, Op, PlanView, Ref, Registers, StandsAt, Trace, passed_over, seen_at, test, truths_of, Cells, Cause, EndsAt, Fault, Handles, HandlesAt, Scope, Stands, guards_in, holds_at, instructions_in, left_by, scope_in, scope_of, taken_after, EqId, Option, Place, IsEnd, IsKept, answer_of, ended_behind, IsMachineOf, Lowered, Lowers, Machine, actor_at, named, registers_of, Instruction, Work, Copy, Next, One, Two}
+use Rattle.sig_machine.proofs.Common.{cells_in, ◌≡◌, ◌<◌, ◌≤◌, ◌+◌, ◌∙◌, inl, inr, ℕ, zero, suc, ℤ, Bool, true, false, List, length, Some, Ok, Err, refl, sym, ap, subst, arith, set, slice_get, slice_index_or, length-set, get_within, Actor, AreFlowsFor, Instant, IsAccepted, IsAmid, Op, PlanView, Ref, Registers, StandsAt, Trace, passed_over, seen_at, test, truths_of, Cells, Cause, EndsAt, Fault, Handles, HandlesAt, Scope, Stands, guards_in, holds_at, instructions_in, left_by, scope_in, scope_of, taken_after, EqId, Option, Place, IsEnd, IsKept, answer_of, ended_behind, IsMachineOf, Lowered, Lowers, Machine, actor_at, named, registers_of, Instruction, Work, Copy, Next, One, Two}
 use Rattle.sig_machine.proofs.KnownGuards.{guard_stays}
 use Rattle.sig_machine.proofs.LeftValues.{machine_behind, room_of}
-use Rattle.sig_machine.proofs.MachinesWithCells.{AreAsMany, HasCells, cells_in, has_registers, has_these, one_actor, with_cells}
+use Rattle.sig_machine.proofs.MachinesWithCells.{AreAsMany, HasCells, has_registers, has_these, one_actor, with_cells}
 use Rattle.sig_machine.proofs.OneInstruction.{ends_by, goes_on, input_there}
 use Rattle.sig_machine.proofs.PlacesOfOrder.{stands_somewhere}
 

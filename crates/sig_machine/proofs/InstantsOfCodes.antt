@@ -1,8 +1,8 @@
 -- What the code of a plan makes of an instant, on the cells that its machine lends.
-use Rattle.sig_machine.proofs.Common.{◌≡◌, ◌∙◌, ℕ, ℤ, List, length, sym, ap, subst, AreFlowsFor, Cause, Cells, EndsAt, EndsBy, EqId, Fault, GoesOn, Handles, IsAccepted, IsMachineOf, Keeps, Lowered, Lowers, Machine, Op, Option, PlanView, Scope, Stands, StandsAt, StoreView, cells_of, guards_in, instructions_in, named, scope_in}
+use Rattle.sig_machine.proofs.Common.{cells_in, ◌≡◌, ◌∙◌, ℕ, ℤ, List, length, sym, ap, subst, AreFlowsFor, Cause, Cells, EndsAt, EndsBy, EqId, Fault, GoesOn, Handles, IsAccepted, IsMachineOf, Keeps, Lowered, Lowers, Machine, Op, Option, PlanView, Scope, Stands, StandsAt, StoreView, cells_of, guards_in, instructions_in, named, scope_in}
 use Rattle.sig_machine.proofs.HandledInstants.{all_handled, code_stands, ends_there}
 use Rattle.sig_machine.proofs.KeptMachines.{has_kept, machine_kept}
-use Rattle.sig_machine.proofs.MachinesWithCells.{cells_in, with_cells}
+use Rattle.sig_machine.proofs.MachinesWithCells.{with_cells}
 
 pub lent_cells : (m : Machine) (values : List ℤ) (stamps taken : List ℕ) → values ≡ m.cells.items → stamps ≡ m.stamps.items → taken ≡ m.taken.items → cells_of values stamps taken ≡ cells_in m
 lent_cells m values stamps taken one two three =

@@ -1,6 +1,6 @@
 -- A machine of a plan stays one, whatever its code does.
-use Rattle.sig_machine.proofs.Common.{◌≡◌, ◌<◌, ◌+◌, ◌∙◌, inl, inr, ℕ, ℤ, List, length, Some, sym, ap, arith, slice_get, get_within, Cells, Instruction, IsAccepted, IsMachineOf, Keeps, Lowered, Lowers, Machine, PlanView, cell, instructions_in}
-use Rattle.sig_machine.proofs.MachinesWithCells.{HasCells, cells_in, has_these, with_cells}
+use Rattle.sig_machine.proofs.Common.{cells_in, ◌≡◌, ◌<◌, ◌+◌, ◌∙◌, inl, inr, ℕ, ℤ, List, length, Some, sym, ap, arith, slice_get, get_within, Cells, Instruction, IsAccepted, IsMachineOf, Keeps, Lowered, Lowers, Machine, PlanView, cell, instructions_in}
+use Rattle.sig_machine.proofs.MachinesWithCells.{HasCells, has_these, with_cells}
 use Rattle.sig_machine.proofs.PlacesOfOrder.{stands_somewhere}
 
 module _ (plan : PlanView) (accepted : IsAccepted plan) (flows : List (List ℤ)) (lowered : Lowered) (lowers : Lowers plan lowered) (old : Machine) (own : IsMachineOf plan lowered flows old)

@@ -1,5 +1,5 @@
 -- What the value of an instruction leaves is what its operation leaves.
-use Rattle.sig_machine.proofs.Common.{if◌then◌else◌, Bool, true, false, inl, inr, ◌≡◌, ◌<◌, ◌≤◌, ◌+◌, ◌==◌, ◌∙◌, ℕ, zero, suc, ℤ, pos, List, [], ◌∷◌, length, set, nat_lt, None, Option, Some, IfSome, is_some, refl, sym, ap, slice_get, slice_index_or, ltb-true, ltb-false, eqb-true, eq-eqb, length-set, arith, SigId, Kernel, PlanView, Op, OpKind, Read, Compute, Left, Right, DelayRead, Store, Actor, with_at, with_signal, operated, remembers, taken_by, input_of, IsTarget, Lowers, IsMachineFor, actor_at, cell, memories_at, memories_of, registers_of, stamped, taken_of, IsKept, input_taken, taken_after, Instruction, Work, Next, Copy, One, Two, Lowered, Machine}
+use Rattle.sig_machine.proofs.Common.{AbsentAreZero, eqb_tells, if◌then◌else◌, Bool, true, false, inl, inr, ◌≡◌, ◌<◌, ◌≤◌, ◌+◌, ◌==◌, ◌∙◌, ℕ, zero, suc, ℤ, pos, List, [], ◌∷◌, length, set, nat_lt, None, Option, Some, IfSome, is_some, refl, sym, ap, slice_get, slice_index_or, ltb-true, ltb-false, eqb-true, eq-eqb, length-set, arith, SigId, Kernel, PlanView, Op, OpKind, Read, Compute, Left, Right, DelayRead, Store, Actor, with_at, with_signal, operated, remembers, taken_by, input_of, IsTarget, Lowers, IsMachineFor, actor_at, cell, memories_at, memories_of, registers_of, stamped, taken_of, IsKept, input_taken, taken_after, Instruction, Work, Next, Copy, One, Two, Lowered, Machine}
 
 -- ---- lists with another item
 
@@ -20,7 +20,7 @@ or_same [] p v d less = absurd (omega (arith, less))
 or_same (x ∷ xs) zero v d less = refl
 or_same (x ∷ xs) (suc p) v d less = or_same xs p v d (omega (arith, less))
 
-or_other : {A : Type 0} (xs : List A) (p n : ℕ) (v d : A) → (n ≡ p → ⊥) → slice_index_or (set xs p v) n d ≡ slice_index_or xs n d
+pub or_other : {A : Type 0} (xs : List A) (p n : ℕ) (v d : A) → (n ≡ p → ⊥) → slice_index_or (set xs p v) n d ≡ slice_index_or xs n d
 or_other [] p n v d apart = refl
 or_other (x ∷ xs) zero zero v d apart = absurd (apart refl)
 or_other (x ∷ xs) zero (suc n) v d apart = refl
@@ -92,7 +92,7 @@ module _ (kernel : Kernel) (constants : List ℤ) (room : length kernel.signals 
   before_at : (signal : ℕ) → registers_of old signal ≡ (if nat_lt signal n then stamped old.instant (slice_get old.stamps.items signal) (cell old.cells.items signal) else None)
   before_at signal = ap (λ k. if nat_lt signal k then stamped old.instant (slice_get old.stamps.items signal) (cell old.cells.items signal) else None) is.signals
 
-  other_register : (signal : ℕ) → (signal < n → signal ≡ at → ⊥) → registers_of new signal ≡ registers_of old signal
+  pub other_register : (signal : ℕ) → (signal < n → signal ≡ at → ⊥) → registers_of new signal ≡ registers_of old signal
   other_register signal apart =
       register_at signal
       ∙ by_below (λ b. (if b then stamped old.instant (slice_get (set old.stamps.items at old.instant) signal) (cell (set old.cells.items at v) signal) else None)
@@ -106,7 +106,7 @@ module _ (kernel : Kernel) (constants : List ℤ) (room : length kernel.signals 
   itself : (k : ℕ) (w : ℤ) → stamped k (Some k) w ≡ Some w
   itself k w = ap (λ b. if b then Some w else None) (eq-eqb k k refl)
 
-  own_register : (signal : ℕ) → signal < n → signal ≡ at → registers_of new signal ≡ Some v
+  pub own_register : (signal : ℕ) → signal < n → signal ≡ at → registers_of new signal ≡ Some v
   own_register signal less same =
       register_at signal
       ∙ by_below (λ b. (if b then stamped old.instant (slice_get (set old.stamps.items at old.instant) signal) (cell (set old.cells.items at v) signal) else None) ≡ Some v) signal n
@@ -228,3 +228,15 @@ module _ (kernel : Kernel) (constants : List ℤ) (room : length kernel.signals 
         let before = past number stamp (ap (λ (xs : List ℕ). slice_get xs number) (sym kept.stamps) ∙ there) in
         let k = kept.instant in omega (arith, before, k);
   }
+
+  -- the cells of absent signals hold 0 still
+  pub absent_behind : AbsentAreZero old → AbsentAreZero new
+  absent_behind cleared signal below none = elim (eqb_tells signal at) [
+    | inl same ↦
+        absurd (let some = own_register signal (let a = kept.signals in let b = is.signals in omega (arith, below, a, b)) same.1 in
+        let clash : None ≡ Some v = sym none ∙ some in cc)
+    | inr other ↦
+        ap (λ (xs : List ℤ). cell xs signal) kept.cells
+        ∙ or_other old.cells.items at signal v (pos 0) other.1
+        ∙ cleared signal (let a = kept.signals in omega (arith, below, a)) (sym (other_register signal (λ less. other.1)) ∙ none)
+  ]

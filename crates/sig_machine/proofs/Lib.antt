@@ -16,11 +16,13 @@ pub mod KnownGuards
 pub mod Lists
 pub mod Openings
 pub mod Presence
+pub mod RowsOfActor
 pub mod Shapes
 pub mod PlacesOfOrder
 pub mod StepsWithMoreConstants
 pub mod Tables
 pub mod Told
+pub mod ToldRows
 pub mod WorksWithMoreConstants
 pub use Common.*
 pub use Actors.*
@@ -40,10 +42,12 @@ pub use KnownGuards.*
 pub use Lists.*
 pub use Openings.*
 pub use Presence.*
+pub use RowsOfActor.*
 pub use Shapes.*
 pub use PlacesOfOrder.*
 pub use StepsWithMoreConstants.*
 pub use Tables.*
 pub use Told.*
+pub use ToldRows.*
 pub use WorksWithMoreConstants.*
 pub use Rattle.sig_machine.proofs.LeftValues.{target_within}

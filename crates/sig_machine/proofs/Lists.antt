@@ -1,6 +1,6 @@
 -- Lists in which one place is set, and functions over lists.
 pub use Rattle.std.proofs.lemmas.Option.{same_Some}
-use Rattle.sig_machine.proofs.Common.{◌≡◌, ◌≢◌, ◌<◌, ◌+◌, ◌∙◌, ℕ, zero, suc, Bool, false, List, [], ◌∷◌, length, map, replicate, set, slice_get, Some, refl, ap, arith, subst, sym, inl, inr, eqb_tells}
+use Rattle.sig_machine.proofs.Common.{◌≡◌, ◌≢◌, ◌<◌, ◌+◌, ◌∙◌, ℕ, zero, suc, Bool, false, List, [], ◌∷◌, length, map, replicate, set, slice_get, None, Some, refl, ap, arith, subst, sym, inl, inr, eqb_tells}
 use Rattle.sig_lists.proofs.SetItems.{get_set_other, get_set_same}
 
 -- two functions that agree on a list
@@ -40,3 +40,17 @@ one_more_false xs i within h k below = elim (eqb_tells k i) [
   | inl same ↦ subst (λ (j : ℕ). slice_get (set xs i false) j ≡ Some false) (sym same.1) (get_set_same xs i false within)
   | inr other ↦ get_set_other xs i k false other.1 ∙ h k (omega (arith, below, other.1))
 ]
+
+-- what a function gives of the item of a place
+pub map_at : {X Y : Type 0} (f : X → Y) (xs : List X) (k : ℕ) (a : X) → slice_get xs k ≡ Some a → slice_get (map f xs) k ≡ Some (f a)
+map_at f [] k a is = absurd (let e : None ≡ Some a = is in cc)
+map_at f (x ∷ xs) zero a is = ap (λ y. Some (f y)) (same_Some x a is)
+map_at f (x ∷ xs) (suc k) a is = map_at f xs k a is
+
+-- lists of as many items, which are the same by place
+pub same_by_place : {X : Type 0} (xs ys : List X) → length xs ≡ length ys → ((k : ℕ) (a : X) → slice_get xs k ≡ Some a → slice_get ys k ≡ Some a) → xs ≡ ys
+same_by_place [] [] count each = refl
+same_by_place [] (y ∷ ys) count each = absurd (omega (arith, count))
+same_by_place (x ∷ xs) [] count each = absurd (omega (arith, count))
+same_by_place (x ∷ xs) (y ∷ ys) count each =
+    ap (λ z. z ∷ xs) (same_Some x y (sym (each 0 x refl))) ∙ ap (λ zs. y ∷ zs) (same_by_place xs ys (omega (arith, count)) (λ k a is. each (suc k) a is))

@@ -1,5 +1,9 @@
 -- Machines that have given cells.
-use Rattle.sig_machine.proofs.Common.{◌≡◌, ◌∙◌, ℕ, ℤ, false, List, length, refl, sym, ap, slice_index_or, with_items, with_items_is, Actor, Cells, Machine, actor_at, cells_of, memories_at, registers_in, registers_of}
+use mathlib.Core.HLevel.{is_prop→PathP}
+use native.Mathlib.Bridge.{le_prop}
+use native.Mathlib.Nat.{ℕ_set}
+use Rattle.std.specs.Prelude.{Vec}
+use Rattle.sig_machine.proofs.Common.{◌≤◌, ◌≡◌, ◌∙◌, ℕ, ℤ, false, List, length, refl, sym, ap, slice_index_or, with_items, with_items_is, Actor, Cells, Machine, Does, GoesTo, Instruction, zero, suc, arith, ◌+◌, actor_at, cells_in, cells_of, memories_at, registers_in, registers_of}
 
 -- a machine has these cells, in this instant
 pub record HasCells (count at : ℕ) (s : Cells) (m : Machine) : Type 0 where
@@ -8,10 +12,6 @@ pub record HasCells (count at : ℕ) (s : Cells) (m : Machine) : Type 0 where
   pub cells : m.cells.items ≡ s.values
   pub stamps : m.stamps.items ≡ s.stamps
   pub taken : m.taken.items ≡ s.taken
-
--- the cells that a machine has
-abbrev pub cells_in : Machine → Cells
-cells_in m = cells_of m.cells.items m.stamps.items m.taken.items
 
 -- the actor of all machines that have these
 abbrev actor_by : ℕ → ℕ → List ℤ → List ℕ → List ℕ → ℕ → Actor
@@ -67,3 +67,35 @@ has_these m s many = record {
   stamps = with_items_is m.stamps s.stamps (many.stamps ∙ sym m.stamps.ok.0);
   taken = with_items_is m.taken s.taken (many.taken ∙ sym m.taken.ok.0);
 }
+
+-- ---- as it was
+
+pub same_items : {X Z : Type 0} (v : Vec X Z) (xs : List X) → xs ≡ v.items → with_items v xs ≡ v
+same_items {X} {Z} v xs same = λ j. let w : Vec X Z = record {
+  ptr = v.ptr;
+  len = v.len;
+  cap = v.cap;
+  alloc = v.alloc;
+  items = items j;
+  ok = is_prop→PathP (λ i. (v.len ≡ length (items i)) × (v.len ≤ v.cap)) (λ i x y k. (ℕ_set _ _ x.0 y.0 k, le_prop x.1 y.1 k)) (with_items v xs).ok v.ok j;
+  small = v.small;
+} in w where
+  items : (with_items v xs).items ≡ v.items
+  items = with_items_is v xs (ap length same ∙ sym v.ok.0) ∙ same
+
+-- a machine with the cells that it has
+pub same_machine : (m : Machine) (s : Cells) → s.values ≡ m.cells.items → s.stamps ≡ m.stamps.items → s.taken ≡ m.taken.items → with_cells m s ≡ m
+same_machine m s cells stamps taken = λ j. let same : Machine = record {
+  signals = m.signals;
+  instant = m.instant;
+  cells = same_items m.cells s.values cells j;
+  stamps = same_items m.stamps s.stamps stamps j;
+  taken = same_items m.taken s.taken taken j;
+} in same
+
+-- where a row of none is done, the cells are as they were
+pub nothing_done : (instructions : List Instruction) (flows : List (List ℤ)) (instant from to : ℕ) (s t : Cells) → GoesTo instructions flows instant from to s t → to ≡ from → t ≡ s
+nothing_done instructions flows instant from to s t goes none = by goes.count goes.ends goes.does where
+  by : (n : ℕ) → from + n ≡ to → Does instructions flows instant from n s t → t ≡ s
+  by zero ends does = does
+  by (suc n) ends does = absurd (omega (arith, ends, none))

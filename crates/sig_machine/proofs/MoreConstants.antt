@@ -3,7 +3,7 @@ use Rattle.sig_machine.proofs.Common.{◌≡◌, ◌≤◌, ◌++◌, ◌∙◌,
 use Rattle.sig_lists.proofs.Joined.{get_pushed}
 use Rattle.sig_machine.proofs.Openings.{cell_front}
 
-reads_more : (inputs few many : ℕ) (work : Work) → few ≤ many → ReadsWithin inputs few work → ReadsWithin inputs many work
+pub reads_more : (inputs few many : ℕ) (work : Work) → few ≤ many → ReadsWithin inputs few work → ReadsWithin inputs many work
 reads_more inputs few many (Next input) more within = within
 reads_more inputs few many (Copy source) more within = omega (arith, more, within)
 reads_more inputs few many (One function a) more within = omega (arith, more, within)

@@ -2,20 +2,22 @@
 use Rattle.std.specs.Prelude.{◌≡◌, ◌≤◌, ◌+◌, ◌-◌}
 use Rattle.sig_machine.specs.Prelude.{ℕ, ℤ, Bool, true, false, List, length, slice_get, Some, Kernel, PlanView, Step, StepKind, Do, OpId, Op, Actor, Registers, Cause, Faults, Gives, code_of, operated, outcome, truths_of, IsAccepted}
 use Rattle.sig_machine.specs.Lowerings.{IsFor}
-use Rattle.sig_machine.specs.Machines.{IsMachineFor, actor_at, registers_at, registers_of}
-use Rattle.sig_machine.specs.inner.Truths.{AreVariables}
+use Rattle.sig_machine.specs.Machines.{AbsentAreZero, IsMachineFor, actor_at, registers_of}
+use Rattle.sig_machine.specs.inner.Truths.{AreNextTold, AreVariables}
 use Rattle.sig_machine.specs.declared.actor.ActorMachine.{ActorMachine}
+use Rattle.sig_cells.specs.Instructions.{cells_of, registers_in}
+use Rattle.sig_cells.specs.Rows.{AreInstructions, listed}
 use Rattle.sig_cells.specs.declared.instruction.Instruction.{Instruction}
 
 abbrev pub instant_of : ActorMachine → ℕ
 instant_of a = a.machine.instant
 
--- what each signal is in this instant, as far as it was written, and what it was in the one before
+-- what each signal is in this instant, as far as it was written, and what it was in the one before, by the cells of that
 abbrev pub seen_in : ActorMachine → Registers
 seen_in a = registers_of a.machine
 
 abbrev pub last_in : ActorMachine → Registers
-last_in a = registers_at (a.machine.instant - 1) a.machine
+last_in a = registers_in a.machine.signals (a.machine.instant - 1) (cells_of a.last.items a.machine.stamps.items a.machine.taken.items)
 
 -- the truths of the conditions
 abbrev pub truths_in : ActorMachine → List Bool
@@ -53,10 +55,14 @@ pub record HasActor (plan : PlanView) (k : ℕ) (flows : List (List ℤ)) (a : A
   pub constants : List ℤ
   pub room : length plan.kernel.signals + length plan.kernel.signals ≤ length constants
   pub machine : IsMachineFor (length plan.kernel.signals) constants flows a.machine
+  pub absent : AbsentAreZero a.machine
+  pub last : length a.last.items ≡ length constants
   pub inputs : plan.kernel.inputs ≤ length flows
-  pub count : length a.instructions.items ≡ length (code_of plan k).steps
-  pub each : AreForSteps plan (code_of plan k).steps constants a.instructions.items
+  pub instructions : AreInstructions (length flows) (length constants) a.instructions
+  pub count : length (listed a.instructions) ≡ length (code_of plan k).steps
+  pub each : AreForSteps plan (code_of plan k).steps constants (listed a.instructions)
   pub table : AreVariables plan.clocks.conditions (length plan.kernel.signals) a.variables.items
+  pub next : AreNextTold (listed a.instructions) a.variables.items a.next_told.items
   pub told : truths_in a ≡ truths_of plan.clocks.conditions (seen_in a)
 
 -- A machine is that of an actor of this plan, over these flows.

@@ -10,11 +10,6 @@ abbrev pub registers_of : Machine → Registers
 registers_of m signal =
     if nat_lt signal m.signals then stamped m.instant (slice_get m.stamps.items signal) (cell m.cells.items signal) else None
 
--- what each signal was when it was written last, as far as that was in this instant
-abbrev pub registers_at : ℕ → Machine → Registers
-registers_at instant m signal =
-    if nat_lt signal m.signals then stamped instant (slice_get m.stamps.items signal) (cell m.cells.items signal) else None
-
 -- what is remembered for the delay that defines a signal, by the cells behind those of so many signals
 abbrev pub memories_at : ℕ → List ℤ → ℕ → ℤ
 memories_at signals cells signal = if nat_lt signal signals then cell cells (signals + signal) else pos 0
@@ -39,6 +34,10 @@ actor_at m step = record {
 -- the cells behind those of signals and delays hold the constants
 abbrev pub HaveConstants : ℕ → List ℤ → List ℤ → Type 0
 HaveConstants signals constants cells = (number : ℕ) → signals + signals ≤ number → number < length constants → cell cells number ≡ cell constants number
+
+-- the cell of each signal that is absent in the instant holds 0
+abbrev pub AbsentAreZero : Machine → Type 0
+AbsentAreZero m = (signal : ℕ) → signal < m.signals → registers_of m signal ≡ None → cell m.cells.items signal ≡ pos 0
 
 -- A machine has so many signals and these constants, and is one over these flows.
 pub record IsMachineFor (count : ℕ) (held : List ℤ) (flows : List (List ℤ)) (m : Machine) : Type 0 where

@@ -1,5 +1,5 @@
 -- What the definitions and the clauses of this crate cite of std and of the crates below, passed on from one place.
-pub use Rattle.std.specs.Prelude.{Bool, Contains, IfErr, IfNone, IfOk, IfSome, List, None, Ok, OnOk, Option, Some, [], false, length, map, nat_lt, pos, replicate, slice_get, slice_index_or, slice_set, true, unwrap_or, ℕ, ℤ}
+pub use Rattle.std.specs.Prelude.{Bool, Contains, IfErr, IfNone, IfOk, IfSome, List, None, Ok, OnOk, Option, Some, [], false, length, map, nat_lt, pos, replicate, slice_get, slice_index_or, slice_set, suc, true, zero, ℕ, ℤ}
 pub use Rattle.sig_base.specs.declared.ids.OpId.{OpId}
 pub use Rattle.sig_plan.specs.Operations.{signals_of}
 pub use Rattle.sig_model.specs.Actors.{code_of}

@@ -1,5 +1,5 @@
 -- Definitions that no other crate cites.
-pub mod Present
+pub mod OnCells
 pub mod Sources
 pub mod Truths
 pub mod Works

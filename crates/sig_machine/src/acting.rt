@@ -1,12 +1,11 @@
 //! What an actor does on its machine.
 
 ghost use Rattle.std.specs.Prelude.{◌≡◌, ◌<◌};
-ghost use Rattle.sig_machine.specs.Prelude.{ℕ, ℤ, List, IfSome, Some, length, slice_get, PlanView, Op, with_signal};
+ghost use Rattle.sig_machine.specs.Prelude.{ℕ, ℤ, List, IfSome, Some, length, PlanView, Op, with_signal};
 ghost use Rattle.sig_machine.specs.ActorMachines.{IsMachineOfActor, IsOpOfStep, IsStepDone, actor_in, instant_of, seen_in};
 
 use crate::actor::ActorMachine;
 use sig_base::SigId;
-use sig_cells::Instruction;
 use sig_kernel::Inputs;
 use sig_plan::Plan;
 
@@ -14,29 +13,13 @@ impl ActorMachine {
     /// Does the operation of a step of the actor, and tells whether it has a value; nothing changes where it has none. It
     /// takes no memory.
     #[inline(always)]
-    pub fn follow(&mut self, _plan: &Plan, _actor: u32, number: u32, inputs: &Inputs) -> bool
-        requires machine { IsMachineOfActor _plan.now _actor inputs.now self.old }
-        requires op { (op : Op) × IsOpOfStep _plan.now _actor number op }
-        ensures done { (op : Op) → IsOpOfStep _plan.now _actor number op → IsStepDone _plan.now.kernel inputs.now op result self.old self.new }
-        ensures machine { IsMachineOfActor _plan.now _actor inputs.now self.new }
+    pub fn follow(&mut self, plan: &Plan, actor: u32, number: u32, inputs: &Inputs) -> bool
+        requires machine { IsMachineOfActor plan.now actor inputs.now self.old }
+        requires op { (op : Op) × IsOpOfStep plan.now actor number op }
+        ensures done { (op : Op) → IsOpOfStep plan.now actor number op → IsStepDone plan.now.kernel inputs.now op result self.old self.new }
+        ensures machine { IsMachineOfActor plan.now actor inputs.now self.new }
     {
-        let instruction = self.instruction_at(number);
-        match self.machine.follow_present(instruction, inputs) {
-            Some(value) => {
-                self.tell(instruction.target, value);
-                true
-            }
-            None => false,
-        }
-    }
-
-    /// The instruction of a step.
-    #[inline(always)]
-    fn instruction_at(&self, number: u32) -> Instruction
-        requires { number < length self.now.instructions.items }
-        ensures { slice_get self.now.instructions.items number ≡ Some result }
-    {
-        self.instructions[number as usize]
+        self.follow_row(plan, actor, number, 1, inputs) > 0
     }
 
     /// Writes the register of a signal, where there is one.

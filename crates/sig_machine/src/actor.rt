@@ -1,13 +1,15 @@
 //! The machine of one actor.
 
-ghost use Rattle.std.specs.Prelude.{◌≡◌, ◌+◌, ◌<◌, ◌^◌};
-ghost use Rattle.sig_machine.specs.Prelude.{ℕ, ℤ, List, PlanView, at_next};
+ghost use Rattle.std.specs.Prelude.{◌≡◌, ◌+◌, ◌<◌, ◌≤◌, ◌^◌};
+ghost use Rattle.sig_machine.specs.Prelude.{ℕ, ℤ, List, length, PlanView, at_next};
+ghost use Rattle.sig_machine.specs.inner.OnCells.{Begins};
 ghost use Rattle.sig_machine.specs.ActorMachines.{IsMachineOfActor, actor_in, instant_of, last_in, seen_in, truths_in};
 
 use crate::machine::Machine;
 use crate::truths::forget;
 use sig_base::SigId;
-use sig_cells::Instruction;
+use sig_cells::Instructions;
+use std::mem::swap;
 
 /// What an actor of a plan has of each signal in the instant at which it is, what it remembers for each delay, and how
 /// many values of each input it has read, with the instructions of its code. Of the conditions it keeps the truths, which
@@ -15,8 +17,12 @@ use sig_cells::Instruction;
 #[derive(Drop)]
 pub struct ActorMachine {
     pub(crate) machine: Machine,
+    /// The cells of the instant before.
+    pub(crate) last: Vec<i64>,
     /// By step of the code; what stands at a step that does no operation is never followed.
-    pub(crate) instructions: Vec<Instruction>,
+    pub(crate) instructions: Instructions,
+    /// By step, the next one from there on that writes a condition, or the number of steps.
+    pub(crate) next_told: Vec<usize>,
     /// The variable that stands for each signal.
     pub(crate) variables: Vec<Option<usize>>,
     /// By variable.
@@ -43,8 +49,8 @@ impl ActorMachine {
     pub fn last_seen(&self, x: SigId) -> Option<i64>
         ensures { result ≡ last_in self.now x.0 }
     {
-        self.machine
-            .seen_at(x, self.machine.instant.saturating_sub(1))
+        let instant = self.machine.instant.saturating_sub(1);
+        self.machine.seen_at(x, instant, self.last.as_slice())
     }
 
     /// The truths of the conditions.
@@ -55,8 +61,8 @@ impl ActorMachine {
         self.truths.as_slice()
     }
 
-    /// Goes to the next instant, in which no signal is written yet. What that costs does not rise with the number of
-    /// signals, but with that of the conditions.
+    /// Goes to the next instant, in which no signal is written yet: their cells are cleared, and what was in them is kept as
+    /// what they were last.
     pub fn next_instant(&mut self)
         requires { instant_of self.old + 1 < 2 ^ 32 }
         ensures actor { (plan : PlanView) (k : ℕ) (flows : List (List ℤ)) → IsMachineOfActor plan k flows self.old
@@ -65,7 +71,25 @@ impl ActorMachine {
         ensures machine { (plan : PlanView) (k : ℕ) (flows : List (List ℤ)) → IsMachineOfActor plan k flows self.old
             → IsMachineOfActor plan k flows self.new }
     {
+        swap(&mut self.last, &mut self.machine.cells);
+        begin(
+            self.machine.cells.as_mut_slice(),
+            self.last.as_slice(),
+            self.machine.signals,
+        );
         self.machine.instant += 1;
         forget(self.truths.as_mut_slice());
     }
+}
+
+/// Takes over the cells of the instant before, but those of so many signals, which are cleared.
+fn begin(cells: &mut [i64], last: &[i64], signals: usize)
+    ensures { signals ≤ length last.now → length cells.old ≡ length last.now → Begins signals last.now cells.new }
+{
+    if signals > last.len() || cells.len() != last.len() {
+        return;
+    }
+    let (own, others) = cells.split_at_mut(signals);
+    own.fill(0);
+    others.copy_from_slice(last.split_at(signals).1);
 }

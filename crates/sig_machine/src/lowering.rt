@@ -4,6 +4,7 @@ ghost use Rattle.std.specs.Prelude.{◌≡◌, ◌≤◌, ◌<◌, ◌+◌};
 ghost use Rattle.sig_machine.specs.Prelude.{ℕ, IfOk, length, IsValid, initial_in, Compute};
 ghost use Rattle.sig_machine.specs.Lowerings.{AreFor, AreGuardsOf, HasShape, IsTarget, IsWorkOf, Lowers};
 ghost use Rattle.sig_machine.specs.Machines.{memories_at};
+ghost use Rattle.sig_machine.specs.inner.OnCells.{AreZero};
 ghost use Rattle.sig_machine.specs.inner.Sources.{Grows};
 
 use crate::lowered::Lowered;
@@ -78,6 +79,7 @@ pub(crate) fn opening_cells(alloc: Global, kernel: &Kernel) -> Result<Vec<i64>, 
     requires { IsValid kernel.now }
     ensures count { IfOk result (λ cells. length cells.items ≡ length kernel.now.signals + length kernel.now.signals) }
     ensures opening { IfOk result (λ cells. memories_at (length kernel.now.signals) cells.items ≡ initial_in kernel.now.equations) }
+    ensures zero { IfOk result (λ cells. AreZero (length kernel.now.signals) cells.items) }
 {
     let signals = kernel.signals.as_slice().len();
     let mut cells = zeros(alloc, signals)?;
@@ -94,8 +96,9 @@ fn signal_count(kernel: &Kernel) -> usize
 }
 
 /// So many zeros.
-fn zeros(alloc: Global, count: usize) -> Result<Vec<i64>, AllocError>
-    ensures { IfOk result (λ cells. length cells.items ≡ count) }
+pub(crate) fn zeros(alloc: Global, count: usize) -> Result<Vec<i64>, AllocError>
+    ensures count { IfOk result (λ cells. length cells.items ≡ count) }
+    ensures zero { IfOk result (λ cells. AreZero count cells.items) }
 {
     vec![in alloc; 0; count]
 }

@@ -2,7 +2,8 @@
 
 ghost use Rattle.std.specs.Prelude.{◌≡◌, ◌+◌, ◌<◌, ◌^◌};
 ghost use Rattle.sig_machine.specs.Prelude.{ℕ, ℤ, List, IfOk, replicate, AreFlowsFor, opening_actor, PlanView, at_next};
-ghost use Rattle.sig_machine.specs.Machines.{IsMachineOf, actor_at, cell, registers_at, registers_of};
+ghost use Rattle.sig_machine.specs.Machines.{IsMachineOf, actor_at, cell, registers_of};
+ghost use Rattle.sig_cells.specs.Instructions.{cells_of, registers_in};
 ghost use Rattle.sig_machine.specs.Lowerings.{Lowers};
 ghost use Rattle.sig_machine.specs.declared.lowered.Lowered.{Lowered};
 
@@ -50,19 +51,19 @@ impl Machine {
     pub fn seen(&self, x: SigId) -> Option<i64>
         ensures { result ≡ registers_of self.now x.0 }
     {
-        self.seen_at(x, self.instant)
+        self.seen_at(x, self.instant, self.cells.as_slice())
     }
 
-    /// What a signal of the plan was when it was written last, if that was in this instant.
-    pub(crate) fn seen_at(&self, x: SigId, instant: u32) -> Option<i64>
-        ensures { result ≡ registers_at instant self.now x.0 }
+    /// What a signal of the plan was by these cells, if it was written last in this instant.
+    pub(crate) fn seen_at(&self, x: SigId, instant: u32, cells: &[i64]) -> Option<i64>
+        ensures { result ≡ registers_in self.now.signals instant (cells_of cells.now self.now.stamps.items self.now.taken.items) x.0 }
     {
         if x.0 as usize >= self.signals {
             return None;
         }
         let stamp = self.stamps.as_slice().get(x.0 as usize)?;
         if *stamp == instant {
-            Some(self.cell(x.0 as usize))
+            Some(value_at(cells, x.0 as usize))
         } else {
             None
         }
@@ -72,10 +73,7 @@ impl Machine {
     pub(crate) fn cell(&self, number: usize) -> i64
         ensures { result ≡ cell self.now.cells.items number }
     {
-        match self.cells.as_slice().get(number) {
-            Some(value) => *value,
-            None => 0,
-        }
+        value_at(self.cells.as_slice(), number)
     }
 
     /// Goes to the next instant, in which no signal is written yet.
@@ -87,6 +85,16 @@ impl Machine {
             → (step : ℕ) → actor_at self.new 0 ≡ at_next (actor_at self.old step) }
     {
         self.instant += 1;
+    }
+}
+
+/// The value of a cell.
+fn value_at(cells: &[i64], number: usize) -> i64
+    ensures { result ≡ cell cells.now number }
+{
+    match cells.get(number) {
+        Some(value) => *value,
+        None => 0,
     }
 }
 

@@ -5,11 +5,12 @@ ghost use Rattle.sig_machine.specs.Prelude.{IfOk, length, replicate, AreFlowsFor
 ghost use Rattle.sig_machine.specs.ActorMachines.{IsMachineOfActor, actor_in};
 
 use crate::actor::ActorMachine;
-use crate::lowering::opening_cells;
+use crate::lowering::{opening_cells, zeros};
 use crate::machine::{Machine, untaken, unwritten};
 use crate::plans::{conditions_of, kernel_of, steps_of};
 use crate::steps::instructions_of;
-use crate::truths::{falses, variables_of};
+use crate::truths::{falses, next_told_of, variables_of};
+use sig_cells::Instructions;
 use sig_kernel::Inputs;
 use sig_plan::Plan;
 use std::alloc::{AllocError, Global};
@@ -32,13 +33,19 @@ impl ActorMachine {
         let conditions = conditions_of(plan);
         let signals = kernel.signals.as_slice().len();
         let mut cells = opening_cells(alloc, kernel)?;
-        let instructions = instructions_of(alloc, plan, steps_of(plan, actor), &mut cells)?;
-        let machine = machine_on(alloc, signals, cells, inputs.as_slice().len())?;
+        cells.push(0)?;
+        let listed = instructions_of(alloc, plan, steps_of(plan, actor), &mut cells)?;
         let variables = variables_of(alloc, conditions, signals)?;
+        let next_told = next_told_of(alloc, listed.as_slice(), variables.as_slice())?;
+        let instructions = Instructions::new(alloc, listed)?;
+        let last = zeros(alloc, cells.len())?;
+        let machine = machine_on(alloc, signals, cells, inputs.as_slice().len())?;
         let truths = falses(alloc, conditions.len())?;
         Ok(ActorMachine {
             machine,
+            last,
             instructions,
+            next_told,
             variables,
             truths,
         })

@@ -5,6 +5,7 @@ ghost use Rattle.sig_machine.specs.Prelude.{IfOk, Some, length, slice_get, IsVal
 ghost use Rattle.sig_machine.specs.ActorMachines.{AreForSteps, IsForKind};
 ghost use Rattle.sig_machine.specs.inner.Sources.{Grows};
 ghost use Rattle.sig_machine.specs.Lowerings.{HasShape, IsFor};
+ghost use Rattle.sig_cells.specs.Rows.{AreWithin, IsWithin};
 
 use crate::lowering::{target_of, work_of};
 use crate::plans::{kernel_of, op_of};
@@ -30,6 +31,7 @@ pub(crate) fn instructions_of(
     ensures grows { IfOk result (λ instructions. Grows cells.old.items cells.new.items) }
     ensures count { IfOk result (λ instructions. length instructions.items ≡ length steps.now) }
     ensures each { IfOk result (λ instructions. AreForSteps plan.now steps.now cells.new.items instructions.items) }
+    ensures within { IfOk result (λ instructions. 0 < length cells.old.items → AreWithin plan.now.kernel.inputs (length cells.new.items) instructions.items) }
 {
     let mut instructions = Vec::new(alloc);
     for number in 0..steps.len() {
@@ -57,6 +59,7 @@ fn instruction_of(
     requires { length plan.now.kernel.signals + length plan.now.kernel.signals ≤ length cells.old.items }
     ensures grows { IfOk result (λ instruction. Grows cells.old.items cells.new.items) }
     ensures is { IfOk result (λ instruction. IsForKind plan.now kind cells.new.items instruction) }
+    ensures within { IfOk result (λ instruction. 0 < length cells.old.items → IsWithin plan.now.kernel.inputs (length cells.new.items) instruction) }
 {
     let StepKind::Do(o) = kind else {
         return Ok(NOTHING);

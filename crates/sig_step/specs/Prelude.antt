@@ -10,10 +10,10 @@ pub use Rattle.sig_model.specs.Prelude.{Cause, Collect, Commit, Depends, Do, Hol
 pub use Rattle.sig_model.specs.Runnable.{FillsAt, IsRunnable, IsThere}
 pub use Rattle.sig_model.specs.Turns.{AtLimit, Commits, Fails, Goes, Puts, Reaction, Stopped, Takes, Turn, carried, item_of, received, turn, turn_at, turn_by}
 pub use Rattle.sig_machine.specs.ActorMachines.{IsMachineOfActor, IsOpOfStep, IsStepDone, actor_in, instant_of, last_in, seen_in, truths_in}
+pub use Rattle.sig_machine.specs.Following.{AreFollowed, DoOperations}
 pub use Rattle.sig_machine.specs.declared.actor.ActorMachine.{ActorMachine}
-pub use Rattle.sig_flow.specs.OutputLines.{longest_line, longest_lines}
+pub use Rattle.sig_flow.specs.OutputLines.{longest_lines}
 pub use Rattle.sig_values.specs.Lines.{line_at}
 pub use Rattle.sig_flow.specs.Prelude.{Rose, TookPrefix}
-pub use Rattle.sig_kernel.specs.OutputText.{seen_line}
 pub use Rattle.sig_machine.specs.Prelude.{AreFlowsFor, IsAccepted, Registers, opening_actor, truths_of}
 pub use Rattle.sig_model.specs.Turns.{reaction_in}

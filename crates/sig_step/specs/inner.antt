@@ -1,3 +1,2 @@
 -- Definitions that no other crate cites.
-pub mod Following
 pub mod Passing

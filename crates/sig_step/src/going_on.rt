@@ -1,12 +1,11 @@
 //! Several steps of an actor.
 
 ghost use Rattle.std.specs.Prelude.{◌≡◌, ◌≢◌, ◌≤◌, ◌<◌, ◌+◌, ◌^◌, ◌↔◌, IsTrue};
-ghost use Rattle.sig_step.specs.Prelude.{Some, false, true, code_of, instant_of, slice_get, IsMachineOfActor};
+ghost use Rattle.sig_step.specs.Prelude.{Some, false, true, code_of, instant_of, slice_get};
 ghost use Rattle.sig_step.specs.Acting.{MayUse};
 ghost use Rattle.sig_step.specs.GoingOn.{ActsOn, DoesStep};
 ghost use Rattle.sig_step.specs.Moving.{IsSameActor};
 ghost use Rattle.sig_step.specs.States.{IsStateOf, known_in};
-ghost use Rattle.sig_step.specs.inner.Following.{AreFollowed, DoOperations};
 ghost use Rattle.sig_step.specs.inner.Passing.{PassesOver};
 ghost use Rattle.sig_step.specs.declared.answer.Acted.TheVariants.{Done};
 
@@ -74,30 +73,12 @@ impl ClusterState {
         }
         let row = self.rows[self.step as usize] - self.step;
         let count = if row < most { row } else { most };
-        let done = self.follow(plan, inputs, count);
+        let done = self
+            .values
+            .follow_row(plan, self.actor, self.step, count, inputs);
         self.step += done;
         self.pos = position_of(code, self.step);
         done
-    }
-
-    /// Does the operations of so many steps from the next one on, up to one that has no value, and tells how many were done.
-    #[inline(always)]
-    fn follow(&mut self, plan: &Plan, inputs: &Inputs, most: u32) -> u32
-        requires machine { IsMachineOfActor plan.now self.old.actor inputs.now self.old.values }
-        requires operations { DoOperations plan.now self.old.actor self.old.step most }
-        requires short { self.old.step + most < 2 ^ 32 }
-        ensures few { result ≤ most }
-        ensures followed { AreFollowed plan.now self.old.actor inputs.now self.old.step result self.old.values self.new.values }
-        ensures stays { self.new ≡ record self.old { values = self.new.values } }
-    {
-        let actor = self.actor;
-        let from = self.step;
-        for done in 0..most {
-            if !self.values.follow(plan, actor, from + done, inputs) {
-                return done;
-            }
-        }
-        most
     }
 
     /// Whether it is known in this instant that the guard of a slot holds.

@@ -1,10 +1,10 @@
 //! The parts of a plan.
 
 ghost use Rattle.std.specs.Prelude.{◌≡◌, ◌<◌};
-ghost use Rattle.sig_step.specs.Prelude.{length, slice_get, code_of, carried, outputs_of, IsAccepted};
+ghost use Rattle.sig_step.specs.Prelude.{length, slice_get, code_of, carried, IsAccepted};
 ghost use Rattle.sig_step.specs.Moving.{CanRun};
 
-use sig_base::{SigId, Signal};
+use sig_base::SigId;
 use sig_kernel::Kernel;
 use sig_plan::{Code, Op, Plan};
 use sig_schedule_laws::accepted_plans_are_runnable;
@@ -50,14 +50,4 @@ pub(crate) fn carried(plan: &Plan, link: u32) -> Option<SigId>
         Some(link) => link.signal,
         None => None,
     }
-}
-
-/// The outputs of a plan, in order.
-pub(crate) fn outputs_of(plan: &Plan) -> &[Signal]
-    ensures { result.now ≡ outputs_of plan.now.kernel }
-{
-    let kernel = kernel_of(plan);
-    let (_, behind) = kernel.signals.as_slice().split_at(kernel.inputs as usize);
-    let (outputs, _) = behind.split_at(kernel.outputs as usize);
-    outputs
 }

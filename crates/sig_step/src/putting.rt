@@ -1,16 +1,17 @@
 //! The text of a reaction.
 
-ghost use Rattle.std.specs.Prelude.{◌≡◌, ◌≤◌, ◌<◌, ◌+◌, ◌++◌};
-ghost use Rattle.sig_step.specs.Prelude.{OnErr, OnOk, length, line_at, longest_line, longest_lines, outputs_of, seen_line, seen_lines, Rose, TookPrefix, last_in};
+ghost use Rattle.std.specs.Prelude.{◌≡◌, ◌≤◌, ◌<◌};
+ghost use Rattle.sig_step.specs.Prelude.{OnErr, OnOk, length, line_at, longest_lines, outputs_of, seen_lines, Rose, TookPrefix, last_in};
 ghost use Rattle.sig_step.specs.States.{last_reaction};
 
-use crate::plans::{kernel_of, outputs_of};
+use crate::plans::kernel_of;
 use crate::state::ClusterState;
-use sig_base::{SigId, Signal};
+use sig_base::SigId;
 use sig_flow::{OutputLines, put_value};
 use sig_kernel::Kernel;
 use sig_plan::Plan;
-use sig_text::{Sink, WriteFault, put_all};
+use sig_text::{Sink, WriteFault};
+use sig_values::put_reaction;
 
 impl ClusterState {
     /// Appends the text of the reaction that the collector committed in its last step; where a write fails,
@@ -62,36 +63,9 @@ impl ClusterState {
         ensures failed { OnErr result (Rose (S.faults sink.old) (S.faults sink.new)) }
         ensures faults_stay { S.faults sink.old ≤ S.faults sink.new }
     {
-        self.put_lines(plan, lines);
-        put_all(sink, lines.as_bytes())
-    }
-
-    /// Makes the lines those of the outputs that were present, from the last one to the first.
-    fn put_lines(&self, plan: &Plan, lines: &mut OutputLines)
-        requires { longest_lines (outputs_of plan.now.kernel) ≤ lines.old.size }
-        ensures size { lines.new.size ≡ lines.old.size }
-        ensures text { lines.new.text ≡ seen_lines (outputs_of plan.now.kernel) (last_reaction plan.now.kernel self.now) }
-    {
-        let kernel = kernel_of(plan);
-        let outputs = outputs_of(plan);
-        lines.clear();
-        for behind in 0..kernel.outputs {
-            let output = kernel.outputs - 1 - behind;
-            let seen = self.values.last_seen(SigId(kernel.inputs + output));
-            put_seen(&outputs[output as usize], seen, lines);
-        }
-    }
-}
-
-/// Puts the line of a signal in front, where it was present.
-#[inline]
-fn put_seen(signal: &Signal, seen: Option<i64>, lines: &mut OutputLines)
-    requires { length lines.old.text + longest_line signal.now ≤ lines.old.size }
-    ensures size { lines.new.size ≡ lines.old.size }
-    ensures text { lines.new.text ≡ seen_line signal.now seen ++ lines.old.text }
-    ensures longest { length lines.new.text ≤ length lines.old.text + longest_line signal.now }
-{
-    if let Some(value) = seen {
-        lines.put_in_front(signal, value);
+        let seen = |number: u32| -> Option<i64>
+            ensures { result ≡ last_in self.entry.now.values number }
+        { self.values.last_seen(SigId(number)) };
+        put_reaction(plan, seen, lines, sink)
     }
 }

@@ -1,86 +1,85 @@
 use Rattle.std.proofs.Common.{◌≡◌, ◌<◌, ℕ, length, refl, sym, subst, arith}
 use Rattle.sig_values.proofs.Common.{slice_get_read}
-use Rattle.sig_cells.specs.Codes.{instructions_in}
 use Rattle.sig_cells.specs.Instants.{Keeps}
-use Rattle.sig_cells.specs.inner.Rows.{GoesTo, Stops}
+use Rattle.sig_cells.specs.Rows.{GoesTo, Stops, listed}
 use Rattle.sig_cells.specs.Instructions.{Cells, cells_of}
 use Rattle.sig_cells.proofs.DoneInARow.{done_further, done_one_on, reads_there, stamp_there, stops_here, target_there}
 use Rattle.sig_cells.proofs.row.do_long.Goals as goal
 
 pub returns-then-place-to-clause-goes : goal.returns-then-place-to-clause-goes
 returns-then-place-to-clause-goes c =
-    let done = done_further c.args.code.now c.args.inputs.now c.args.instant c.args.from (cells_of c.args.cells.now c.args.stamps.now c.args.taken.now) c.loop-place.place c.do_row-place.result (cells_of c.loop-place.cells c.loop-place.stamps c.loop-place.taken) (cells_of c.do_row-place.new.cells c.do_row-place.new.stamps c.loop-place.taken)
+    let done = done_further c.args.all.now c.args.inputs.now c.args.instant c.args.from (cells_of c.args.cells.now c.args.stamps.now c.args.taken.now) c.loop-place.place c.do_row-place.result (cells_of c.loop-place.cells c.loop-place.stamps c.loop-place.taken) (cells_of c.do_row-place.new.cells c.do_row-place.new.stamps c.loop-place.taken)
     c.loop-place.invariant.done c.do_row-place.ensures.goes c.do_row-place.ensures.keeps in
     let past = c.if-place-to.true in
     let within = c.do_row-place.ensures.within in
     let all : c.do_row-place.result ≡ c.args.to = omega (arith, past, within) in
-    subst (λ (n : ℕ). GoesTo (instructions_in c.args.code.now) c.args.inputs.now c.args.instant c.args.from n (cells_of c.args.cells.now c.args.stamps.now c.args.taken.now) (cells_of c.do_row-place.new.cells c.do_row-place.new.stamps c.loop-place.taken)) all done.goes
+    subst (λ (n : ℕ). GoesTo (listed c.args.all.now) c.args.inputs.now c.args.instant c.args.from n (cells_of c.args.cells.now c.args.stamps.now c.args.taken.now) (cells_of c.do_row-place.new.cells c.do_row-place.new.stamps c.loop-place.taken)) all done.goes
 
 pub do_one-requires-clause-reads : goal.do_one-requires-clause-reads
 do_one-requires-clause-reads c =
-    let done = done_further c.args.code.now c.args.inputs.now c.args.instant c.args.from (cells_of c.args.cells.now c.args.stamps.now c.args.taken.now) c.loop-place.place c.do_row-place.result (cells_of c.loop-place.cells c.loop-place.stamps c.loop-place.taken) (cells_of c.do_row-place.new.cells c.do_row-place.new.stamps c.loop-place.taken)
+    let done = done_further c.args.all.now c.args.inputs.now c.args.instant c.args.from (cells_of c.args.cells.now c.args.stamps.now c.args.taken.now) c.loop-place.place c.do_row-place.result (cells_of c.loop-place.cells c.loop-place.stamps c.loop-place.taken) (cells_of c.do_row-place.new.cells c.do_row-place.new.stamps c.loop-place.taken)
     c.loop-place.invariant.done c.do_row-place.ensures.goes c.do_row-place.ensures.keeps in
     let end = c.requires.within in
     let before = c.if-place-to.false in
-    let within : c.do_row-place.result < length (instructions_in c.args.code.now) = omega (arith, before, end) in
-    let at = slice_get_read c.args.code.now.instructions.items (length c.args.code.now.instructions.items) c.do_row-place.result c.index-instruction.result.now refl within c.index-instruction.ensures in
-    reads_there c.args.code.now c.args.inputs.now c.args.instant c.args.from (cells_of c.args.cells.now c.args.stamps.now c.args.taken.now) c.do_row-place.result (cells_of c.do_row-place.new.cells c.do_row-place.new.stamps c.loop-place.taken) done c.index-instruction.result.now at
+    let within : c.do_row-place.result < length (listed c.args.all.now) = omega (arith, before, end) in
+    let at = slice_get_read c.args.all.now.listed.items (length c.args.all.now.listed.items) c.do_row-place.result c.index-instruction.result.now refl within c.index-instruction.ensures in
+    reads_there c.args.all.now c.args.inputs.now c.args.instant c.args.from (cells_of c.args.cells.now c.args.stamps.now c.args.taken.now) c.do_row-place.result (cells_of c.do_row-place.new.cells c.do_row-place.new.stamps c.loop-place.taken) done c.index-instruction.result.now at
 
 pub do_one-requires-clause-cells : goal.do_one-requires-clause-cells
 do_one-requires-clause-cells c =
-    let done = done_further c.args.code.now c.args.inputs.now c.args.instant c.args.from (cells_of c.args.cells.now c.args.stamps.now c.args.taken.now) c.loop-place.place c.do_row-place.result (cells_of c.loop-place.cells c.loop-place.stamps c.loop-place.taken) (cells_of c.do_row-place.new.cells c.do_row-place.new.stamps c.loop-place.taken)
+    let done = done_further c.args.all.now c.args.inputs.now c.args.instant c.args.from (cells_of c.args.cells.now c.args.stamps.now c.args.taken.now) c.loop-place.place c.do_row-place.result (cells_of c.loop-place.cells c.loop-place.stamps c.loop-place.taken) (cells_of c.do_row-place.new.cells c.do_row-place.new.stamps c.loop-place.taken)
     c.loop-place.invariant.done c.do_row-place.ensures.goes c.do_row-place.ensures.keeps in
     let end = c.requires.within in
     let before = c.if-place-to.false in
-    let within : c.do_row-place.result < length (instructions_in c.args.code.now) = omega (arith, before, end) in
-    let at = slice_get_read c.args.code.now.instructions.items (length c.args.code.now.instructions.items) c.do_row-place.result c.index-instruction.result.now refl within c.index-instruction.ensures in
-    target_there c.args.code.now c.args.inputs.now c.args.instant c.args.from (cells_of c.args.cells.now c.args.stamps.now c.args.taken.now) c.do_row-place.result (cells_of c.do_row-place.new.cells c.do_row-place.new.stamps c.loop-place.taken) done c.index-instruction.result.now at
+    let within : c.do_row-place.result < length (listed c.args.all.now) = omega (arith, before, end) in
+    let at = slice_get_read c.args.all.now.listed.items (length c.args.all.now.listed.items) c.do_row-place.result c.index-instruction.result.now refl within c.index-instruction.ensures in
+    target_there c.args.all.now c.args.inputs.now c.args.instant c.args.from (cells_of c.args.cells.now c.args.stamps.now c.args.taken.now) c.do_row-place.result (cells_of c.do_row-place.new.cells c.do_row-place.new.stamps c.loop-place.taken) done c.index-instruction.result.now at
 
 pub do_one-requires-clause-stamps : goal.do_one-requires-clause-stamps
 do_one-requires-clause-stamps c =
-    let done = done_further c.args.code.now c.args.inputs.now c.args.instant c.args.from (cells_of c.args.cells.now c.args.stamps.now c.args.taken.now) c.loop-place.place c.do_row-place.result (cells_of c.loop-place.cells c.loop-place.stamps c.loop-place.taken) (cells_of c.do_row-place.new.cells c.do_row-place.new.stamps c.loop-place.taken)
+    let done = done_further c.args.all.now c.args.inputs.now c.args.instant c.args.from (cells_of c.args.cells.now c.args.stamps.now c.args.taken.now) c.loop-place.place c.do_row-place.result (cells_of c.loop-place.cells c.loop-place.stamps c.loop-place.taken) (cells_of c.do_row-place.new.cells c.do_row-place.new.stamps c.loop-place.taken)
     c.loop-place.invariant.done c.do_row-place.ensures.goes c.do_row-place.ensures.keeps in
     let end = c.requires.within in
     let before = c.if-place-to.false in
-    let within : c.do_row-place.result < length (instructions_in c.args.code.now) = omega (arith, before, end) in
-    let at = slice_get_read c.args.code.now.instructions.items (length c.args.code.now.instructions.items) c.do_row-place.result c.index-instruction.result.now refl within c.index-instruction.ensures in
-    stamp_there c.args.code.now c.args.inputs.now c.args.instant c.args.from (cells_of c.args.cells.now c.args.stamps.now c.args.taken.now) c.do_row-place.result (cells_of c.do_row-place.new.cells c.do_row-place.new.stamps c.loop-place.taken) done c.index-instruction.result.now at
+    let within : c.do_row-place.result < length (listed c.args.all.now) = omega (arith, before, end) in
+    let at = slice_get_read c.args.all.now.listed.items (length c.args.all.now.listed.items) c.do_row-place.result c.index-instruction.result.now refl within c.index-instruction.ensures in
+    stamp_there c.args.all.now c.args.inputs.now c.args.instant c.args.from (cells_of c.args.cells.now c.args.stamps.now c.args.taken.now) c.do_row-place.result (cells_of c.do_row-place.new.cells c.do_row-place.new.stamps c.loop-place.taken) done c.index-instruction.result.now at
 
 pub returns-then-not-do_one-clause-goes : goal.returns-then-not-do_one-clause-goes
 returns-then-not-do_one-clause-goes c =
-    let done = done_further c.args.code.now c.args.inputs.now c.args.instant c.args.from (cells_of c.args.cells.now c.args.stamps.now c.args.taken.now) c.loop-place.place c.do_row-place.result (cells_of c.loop-place.cells c.loop-place.stamps c.loop-place.taken) (cells_of c.do_row-place.new.cells c.do_row-place.new.stamps c.loop-place.taken)
+    let done = done_further c.args.all.now c.args.inputs.now c.args.instant c.args.from (cells_of c.args.cells.now c.args.stamps.now c.args.taken.now) c.loop-place.place c.do_row-place.result (cells_of c.loop-place.cells c.loop-place.stamps c.loop-place.taken) (cells_of c.do_row-place.new.cells c.do_row-place.new.stamps c.loop-place.taken)
     c.loop-place.invariant.done c.do_row-place.ensures.goes c.do_row-place.ensures.keeps in
-    subst (λ (s : Cells). GoesTo (instructions_in c.args.code.now) c.args.inputs.now c.args.instant c.args.from c.do_row-place.result (cells_of c.args.cells.now c.args.stamps.now c.args.taken.now) s) (sym (c.do_one.ensures.same c.if-not-do_one.true)) done.goes
+    subst (λ (s : Cells). GoesTo (listed c.args.all.now) c.args.inputs.now c.args.instant c.args.from c.do_row-place.result (cells_of c.args.cells.now c.args.stamps.now c.args.taken.now) s) (sym (c.do_one.ensures.same c.if-not-do_one.true)) done.goes
 
 pub returns-then-not-do_one-clause-keeps : goal.returns-then-not-do_one-clause-keeps
 returns-then-not-do_one-clause-keeps c =
-    let done = done_further c.args.code.now c.args.inputs.now c.args.instant c.args.from (cells_of c.args.cells.now c.args.stamps.now c.args.taken.now) c.loop-place.place c.do_row-place.result (cells_of c.loop-place.cells c.loop-place.stamps c.loop-place.taken) (cells_of c.do_row-place.new.cells c.do_row-place.new.stamps c.loop-place.taken)
+    let done = done_further c.args.all.now c.args.inputs.now c.args.instant c.args.from (cells_of c.args.cells.now c.args.stamps.now c.args.taken.now) c.loop-place.place c.do_row-place.result (cells_of c.loop-place.cells c.loop-place.stamps c.loop-place.taken) (cells_of c.do_row-place.new.cells c.do_row-place.new.stamps c.loop-place.taken)
     c.loop-place.invariant.done c.do_row-place.ensures.goes c.do_row-place.ensures.keeps in
-    subst (λ (s : Cells). Keeps (instructions_in c.args.code.now) c.args.instant (cells_of c.args.cells.now c.args.stamps.now c.args.taken.now) s) (sym (c.do_one.ensures.same c.if-not-do_one.true)) done.keeps
+    subst (λ (s : Cells). Keeps (listed c.args.all.now) c.args.instant (cells_of c.args.cells.now c.args.stamps.now c.args.taken.now) s) (sym (c.do_one.ensures.same c.if-not-do_one.true)) done.keeps
 
 pub returns-then-not-do_one-clause-stops : goal.returns-then-not-do_one-clause-stops
 returns-then-not-do_one-clause-stops c = λ earlier.
-    let done = done_further c.args.code.now c.args.inputs.now c.args.instant c.args.from (cells_of c.args.cells.now c.args.stamps.now c.args.taken.now) c.loop-place.place c.do_row-place.result (cells_of c.loop-place.cells c.loop-place.stamps c.loop-place.taken) (cells_of c.do_row-place.new.cells c.do_row-place.new.stamps c.loop-place.taken)
+    let done = done_further c.args.all.now c.args.inputs.now c.args.instant c.args.from (cells_of c.args.cells.now c.args.stamps.now c.args.taken.now) c.loop-place.place c.do_row-place.result (cells_of c.loop-place.cells c.loop-place.stamps c.loop-place.taken) (cells_of c.do_row-place.new.cells c.do_row-place.new.stamps c.loop-place.taken)
     c.loop-place.invariant.done c.do_row-place.ensures.goes c.do_row-place.ensures.keeps in
     let end = c.requires.within in
     let before = c.if-place-to.false in
-    let within : c.do_row-place.result < length (instructions_in c.args.code.now) = omega (arith, before, end) in
-    let at = slice_get_read c.args.code.now.instructions.items (length c.args.code.now.instructions.items) c.do_row-place.result c.index-instruction.result.now refl within c.index-instruction.ensures in
-    subst (λ (s : Cells). Stops (instructions_in c.args.code.now) c.args.inputs.now c.do_row-place.result s) (sym (c.do_one.ensures.same c.if-not-do_one.true))
-    (stops_here c.args.code.now c.args.inputs.now c.args.instant c.args.from (cells_of c.args.cells.now c.args.stamps.now c.args.taken.now) c.do_row-place.result (cells_of c.do_row-place.new.cells c.do_row-place.new.stamps c.loop-place.taken) done c.index-instruction.result.now at (c.do_one.ensures.fault c.if-not-do_one.true))
+    let within : c.do_row-place.result < length (listed c.args.all.now) = omega (arith, before, end) in
+    let at = slice_get_read c.args.all.now.listed.items (length c.args.all.now.listed.items) c.do_row-place.result c.index-instruction.result.now refl within c.index-instruction.ensures in
+    subst (λ (s : Cells). Stops (listed c.args.all.now) c.args.inputs.now c.do_row-place.result s) (sym (c.do_one.ensures.same c.if-not-do_one.true))
+    (stops_here c.args.all.now c.args.inputs.now c.args.instant c.args.from (cells_of c.args.cells.now c.args.stamps.now c.args.taken.now) c.do_row-place.result (cells_of c.do_row-place.new.cells c.do_row-place.new.stamps c.loop-place.taken) done c.index-instruction.result.now at (c.do_one.ensures.fault c.if-not-do_one.true))
 
 pub loop-place-preserved : goal.loop-place-preserved
 loop-place-preserved c =
-    let done = done_further c.args.code.now c.args.inputs.now c.args.instant c.args.from (cells_of c.args.cells.now c.args.stamps.now c.args.taken.now) c.loop-place.place c.do_row-place.result (cells_of c.loop-place.cells c.loop-place.stamps c.loop-place.taken) (cells_of c.do_row-place.new.cells c.do_row-place.new.stamps c.loop-place.taken)
+    let done = done_further c.args.all.now c.args.inputs.now c.args.instant c.args.from (cells_of c.args.cells.now c.args.stamps.now c.args.taken.now) c.loop-place.place c.do_row-place.result (cells_of c.loop-place.cells c.loop-place.stamps c.loop-place.taken) (cells_of c.do_row-place.new.cells c.do_row-place.new.stamps c.loop-place.taken)
     c.loop-place.invariant.done c.do_row-place.ensures.goes c.do_row-place.ensures.keeps in
     let end = c.requires.within in
     let before = c.if-place-to.false in
-    let within : c.do_row-place.result < length (instructions_in c.args.code.now) = omega (arith, before, end) in
-    let at = slice_get_read c.args.code.now.instructions.items (length c.args.code.now.instructions.items) c.do_row-place.result c.index-instruction.result.now refl within c.index-instruction.ensures in
+    let within : c.do_row-place.result < length (listed c.args.all.now) = omega (arith, before, end) in
+    let at = slice_get_read c.args.all.now.listed.items (length c.args.all.now.listed.items) c.do_row-place.result c.index-instruction.result.now refl within c.index-instruction.ensures in
     let later = c.loop-place.invariant.later in
     let on = c.do_row-place.ensures.later in
     record {
       later = omega (arith, later, on);
       before = omega (arith, before);
-      done = done_one_on c.args.code.now c.args.inputs.now c.args.instant c.args.from (cells_of c.args.cells.now c.args.stamps.now c.args.taken.now) c.do_row-place.result (cells_of c.do_row-place.new.cells c.do_row-place.new.stamps c.loop-place.taken) done c.index-instruction.result.now at (cells_of c.do_one.new.cells c.do_one.new.stamps c.do_one.new.taken) (c.do_one.ensures.done c.if-not-do_one.false);
+      done = done_one_on c.args.all.now c.args.inputs.now c.args.instant c.args.from (cells_of c.args.cells.now c.args.stamps.now c.args.taken.now) c.do_row-place.result (cells_of c.do_row-place.new.cells c.do_row-place.new.stamps c.loop-place.taken) done c.index-instruction.result.now at (cells_of c.do_one.new.cells c.do_one.new.stamps c.do_one.new.taken) (c.do_one.ensures.done c.if-not-do_one.false);
     }

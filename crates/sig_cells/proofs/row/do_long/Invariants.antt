@@ -10,5 +10,5 @@ abbrev pub invariant-loop-place : goal.invariant-loop-place
 invariant-loop-place l = record {
   later : l.from ≤ l.place;
   before : l.place ≤ l.to;
-  done : AreDoneTo l.code l.inputs l.instant l.from l.place (cells_of l.fn.cells l.fn.stamps l.fn.taken) (cells_of l.cells l.stamps l.taken);
+  done : AreDoneTo l.all l.inputs l.instant l.from l.place (cells_of l.fn.cells l.fn.stamps l.fn.taken) (cells_of l.cells l.stamps l.taken);
 }

@@ -2,9 +2,9 @@ use Rattle.std.proofs.Common.{◌≡◌, ◌<◌, ◌+◌, ◌-◌, ◌∙◌, �
 use Rattle.sig_values.proofs.Common.{to_z-of_z}
 use Rattle.std.proofs.lemmas.List.{get_or-set_same}
 use Rattle.std.proofs.Common.{pos}
-use Rattle.sig_cells.specs.Codes.{instructions_in}
 use Rattle.sig_cells.specs.Instructions.{cell, cells_of}
 use Rattle.sig_cells.specs.Opcodes.{work_of}
+use Rattle.sig_cells.specs.Rows.{listed}
 use Rattle.sig_cells.specs.inner.Quick.{ComesTo}
 use Rattle.sig_cells.proofs.DoneInARow.{AreDoneTo, blank, coded_reads, coded_stamp, coded_target, none_done_yet, value_done}
 use Rattle.sig_cells.proofs.row.do_row.Goals as goal
@@ -15,8 +15,8 @@ loop-left-init c =
     let place : c.args.from ≡ c.args.to - (c.args.to - c.args.from) = omega (arith, before) in
     record {
       left = omega arith;
-      done = subst (λ (n : ℕ). AreDoneTo c.args.code.now c.args._inputs.now c.args.instant c.args.from n (cells_of c.args.cells.now c.args.stamps.now c.args._taken.now) (cells_of c.args.cells.now c.args.stamps.now c.args._taken.now)) place
-          (none_done_yet c.args.code.now c.args._inputs.now c.args.instant c.args.from (cells_of c.args.cells.now c.args.stamps.now c.args._taken.now) c.requires.code c.requires.stamps);
+      done = subst (λ (n : ℕ). AreDoneTo c.args.all.now c.args._inputs.now c.args.instant c.args.from n (cells_of c.args.cells.now c.args.stamps.now c.args._taken.now) (cells_of c.args.cells.now c.args.stamps.now c.args._taken.now)) place
+          (none_done_yet c.args.all.now c.args._inputs.now c.args.instant c.args.from (cells_of c.args.cells.now c.args.stamps.now c.args._taken.now) c.requires.code c.requires.stamps);
       newest = sym c.first_value.ensures ∙ sym (to_z-of_z w64 c.first_value.result (search rules));
     }
 
@@ -27,8 +27,8 @@ value_of-a-requires-clause-within c =
     let end = c.requires.within in
     let some = c.loop-left-test.true in
     let place = c.args.to - c.loop-left.left in
-    let within : place < length (instructions_in c.args.code.now) = omega (arith, l, b, end, some) in
-    (coded_reads c.args.code.now c.args._inputs.now c.args.instant c.args.from (cells_of c.args.cells.now c.args.stamps.now c.args._taken.now) place c.loop-left.cells c.loop-left.stamps c.args._taken.now c.loop-left.invariant.done c.as_slice-coded.result.now c.as_slice-coded.ensures.value within).0
+    let within : place < length (listed c.args.all.now) = omega (arith, l, b, end, some) in
+    (coded_reads c.args.all.now c.args._inputs.now c.args.instant c.args.from (cells_of c.args.cells.now c.args.stamps.now c.args._taken.now) place c.loop-left.cells c.loop-left.stamps c.args._taken.now c.loop-left.invariant.done c.as_slice-coded.result.now c.as_slice-coded.ensures.value within).0
 
 pub slice_copy_out-b : goal.slice_copy_out-b
 slice_copy_out-b c =
@@ -37,8 +37,8 @@ slice_copy_out-b c =
     let end = c.requires.within in
     let some = c.loop-left-test.true in
     let place = c.args.to - c.loop-left.left in
-    let within : place < length (instructions_in c.args.code.now) = omega (arith, l, b, end, some) in
-    (coded_reads c.args.code.now c.args._inputs.now c.args.instant c.args.from (cells_of c.args.cells.now c.args.stamps.now c.args._taken.now) place c.loop-left.cells c.loop-left.stamps c.args._taken.now c.loop-left.invariant.done c.as_slice-coded.result.now c.as_slice-coded.ensures.value within).1
+    let within : place < length (listed c.args.all.now) = omega (arith, l, b, end, some) in
+    (coded_reads c.args.all.now c.args._inputs.now c.args.instant c.args.from (cells_of c.args.cells.now c.args.stamps.now c.args._taken.now) place c.loop-left.cells c.loop-left.stamps c.args._taken.now c.loop-left.invariant.done c.as_slice-coded.result.now c.as_slice-coded.ensures.value within).1
 
 pub bounds-cells-one : goal.bounds-cells-one
 bounds-cells-one c =
@@ -47,8 +47,8 @@ bounds-cells-one c =
     let end = c.requires.within in
     let some = c.loop-left-test.true in
     let place = c.args.to - c.loop-left.left in
-    let within : place < length (instructions_in c.args.code.now) = omega (arith, l, b, end, some) in
-    coded_target c.args.code.now c.args._inputs.now c.args.instant c.args.from (cells_of c.args.cells.now c.args.stamps.now c.args._taken.now) place c.loop-left.cells c.loop-left.stamps c.args._taken.now c.loop-left.invariant.done c.as_slice-coded.result.now c.as_slice-coded.ensures.value within
+    let within : place < length (listed c.args.all.now) = omega (arith, l, b, end, some) in
+    coded_target c.args.all.now c.args._inputs.now c.args.instant c.args.from (cells_of c.args.cells.now c.args.stamps.now c.args._taken.now) place c.loop-left.cells c.loop-left.stamps c.args._taken.now c.loop-left.invariant.done c.as_slice-coded.result.now c.as_slice-coded.ensures.value within
 
 pub bounds-stamps-one : goal.bounds-stamps-one
 bounds-stamps-one c =
@@ -57,8 +57,8 @@ bounds-stamps-one c =
     let end = c.requires.within in
     let some = c.loop-left-test.true in
     let place = c.args.to - c.loop-left.left in
-    let within : place < length (instructions_in c.args.code.now) = omega (arith, l, b, end, some) in
-    coded_stamp c.args.code.now c.args._inputs.now c.args.instant c.args.from (cells_of c.args.cells.now c.args.stamps.now c.args._taken.now) place c.loop-left.cells c.loop-left.stamps c.args._taken.now c.loop-left.invariant.done c.as_slice-coded.result.now c.as_slice-coded.ensures.value within
+    let within : place < length (listed c.args.all.now) = omega (arith, l, b, end, some) in
+    coded_stamp c.args.all.now c.args._inputs.now c.args.instant c.args.from (cells_of c.args.cells.now c.args.stamps.now c.args._taken.now) place c.loop-left.cells c.loop-left.stamps c.args._taken.now c.loop-left.invariant.done c.as_slice-coded.result.now c.as_slice-coded.ensures.value within
 
 pub loop-left-preserved : goal.loop-left-preserved
 loop-left-preserved c =
@@ -67,7 +67,7 @@ loop-left-preserved c =
     let end = c.requires.within in
     let some = c.loop-left-test.true in
     let place = c.args.to - c.loop-left.left in
-    let within : place < length (instructions_in c.args.code.now) = omega (arith, l, b, end, some) in
+    let within : place < length (listed c.args.all.now) = omega (arith, l, b, end, some) in
     let one = slice_index_or c.as_slice-coded.result.now place blank in
     let v = to_z w64 (of_z w64 c.in-Some.value) in
     let tells : IsSomeAnd (work_of one.opcode one.a one.b) (ComesTo c.loop-left.cells v) =
@@ -76,7 +76,7 @@ loop-left-preserved c =
     let on : place + 1 ≡ c.args.to - (c.loop-left.left - 1) = omega (arith, l, b, some) in
     record {
       left = omega (arith, l);
-      done = subst (λ (n : ℕ). AreDoneTo c.args.code.now c.args._inputs.now c.args.instant c.args.from n (cells_of c.args.cells.now c.args.stamps.now c.args._taken.now) (cells_of (set c.loop-left.cells one.target v) (set c.loop-left.stamps one.target c.args.instant) c.args._taken.now)) on
-          (value_done c.args.code.now c.args._inputs.now c.args.instant c.args.from (cells_of c.args.cells.now c.args.stamps.now c.args._taken.now) place c.loop-left.cells c.loop-left.stamps c.args._taken.now c.loop-left.invariant.done c.as_slice-coded.result.now c.as_slice-coded.ensures.value within v tells);
-      newest = get_or-set_same c.loop-left.cells one.target v (pos 0) (coded_target c.args.code.now c.args._inputs.now c.args.instant c.args.from (cells_of c.args.cells.now c.args.stamps.now c.args._taken.now) place c.loop-left.cells c.loop-left.stamps c.args._taken.now c.loop-left.invariant.done c.as_slice-coded.result.now c.as_slice-coded.ensures.value within);
+      done = subst (λ (n : ℕ). AreDoneTo c.args.all.now c.args._inputs.now c.args.instant c.args.from n (cells_of c.args.cells.now c.args.stamps.now c.args._taken.now) (cells_of (set c.loop-left.cells one.target v) (set c.loop-left.stamps one.target c.args.instant) c.args._taken.now)) on
+          (value_done c.args.all.now c.args._inputs.now c.args.instant c.args.from (cells_of c.args.cells.now c.args.stamps.now c.args._taken.now) place c.loop-left.cells c.loop-left.stamps c.args._taken.now c.loop-left.invariant.done c.as_slice-coded.result.now c.as_slice-coded.ensures.value within v tells);
+      newest = get_or-set_same c.loop-left.cells one.target v (pos 0) (coded_target c.args.all.now c.args._inputs.now c.args.instant c.args.from (cells_of c.args.cells.now c.args.stamps.now c.args._taken.now) place c.loop-left.cells c.loop-left.stamps c.args._taken.now c.loop-left.invariant.done c.as_slice-coded.result.now c.as_slice-coded.ensures.value within);
     }

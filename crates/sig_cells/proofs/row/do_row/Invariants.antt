@@ -9,6 +9,6 @@ decreases-loop-left l = l.left
 abbrev pub invariant-loop-left : goal.invariant-loop-left
 invariant-loop-left l = record {
   left : l.left ≤ l.to - l.from;
-  done : AreDoneTo l.code l._inputs l.instant l.from (l.to - l.left) (cells_of l.fn.cells l.fn.stamps l._taken) (cells_of l.cells l.stamps l._taken);
+  done : AreDoneTo l.all l._inputs l.instant l.from (l.to - l.left) (cells_of l.fn.cells l.fn.stamps l._taken) (cells_of l.cells l.stamps l._taken);
   newest : cell l.cells l.newest.cell ≡ l.newest.value;
 }

@@ -1,4 +1,4 @@
-use Rattle.sig_machine.proofs.{◌≡◌, ◌+◌, ◌++◌, ◌∷◌, [], ◌∙◌, ap, arith, append_assoc, sym, subst, length, length-append, slice_get, Some, ℕ, ℤ, List, AreForSteps, one_more_step}
+use Rattle.sig_machine.proofs.{◌≡◌, ◌+◌, ◌++◌, ◌∷◌, [], ◌∙◌, ap, arith, append_assoc, sym, subst, length, length-append, slice_get, Some, ℕ, ℤ, List, AreForSteps, AreInstructionsWithin, one_more_step, one_more_within}
 use Rattle.sig_machine.proofs.steps.instructions_of.Goals as goal
 
 pub instruction_of-requires : goal.instruction_of-requires
@@ -22,4 +22,7 @@ loop-number-preserved c =
       count = ap length c.in_ok-push.ensures.items ∙ length-append instructions (instruction ∷ []) ∙ ap (λ (n : ℕ). n + 1) c.loop-number.invariant.count;
       each = subst (AreForSteps plan c.args.steps.now new) (sym c.in_ok-push.ensures.items)
           (one_more_step plan c.args.steps.now old new instructions c.step_in-step.result instruction c.loop-number.invariant.each c.in_ok-instruction.ensures.grows here c.in_ok-instruction.ensures.is);
+      within = λ some. subst (AreInstructionsWithin plan.kernel.inputs (length new)) (sym c.in_ok-push.ensures.items)
+          (one_more_within plan.kernel.inputs old new instructions instruction (c.loop-number.invariant.within some) c.in_ok-instruction.ensures.grows
+          (c.in_ok-instruction.ensures.within (let longer = ap length grown ∙ length-append c.args.cells.now.items more in omega (arith, some, longer))));
     }

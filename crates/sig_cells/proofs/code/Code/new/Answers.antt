@@ -26,9 +26,9 @@ returns-clause-code c = λ inputs cells room within.
     let made : c.as_slice-made.result.now ≡ runs = c.as_slice-made.ensures.value in
     record {
       room = room;
-      instructions = record { within = within; coded = c.in_ok-coded.ensures };
+      instructions = c.in_ok-instructions.ensures.within inputs cells within;
       below = subst (AreBelow signals) (sym copied) c.requires.below;
-      count = sym (guards_count runs) ∙ ap length c.in_ok-runs.ensures.guards ∙ c.requires.count;
+      count = sym (guards_count runs) ∙ ap length c.in_ok-runs.ensures.guards ∙ c.requires.count ∙ ap length (sym c.in_ok-instructions.ensures.listed);
       runs = c.in_ok-runs.ensures.each;
       told = subst (λ (cs : List SigId). AskAmong nodes cs runs) (sym copied)
           (asks_among nodes c.args.conditions.now c.args.guards.now runs c.in_ok-runs.ensures.guards c.requires.guards.told);

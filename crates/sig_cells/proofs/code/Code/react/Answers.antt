@@ -3,7 +3,7 @@ use Rattle.sig_values.proofs.Common.{slice_get_read}
 use Rattle.sig_cells.specs.Prelude.{Depends, SigId, test}
 use Rattle.sig_cells.specs.Codes.{instructions_in}
 use Rattle.sig_cells.specs.Instants.{FailsAt}
-use Rattle.sig_cells.specs.inner.Rows.{GoesTo}
+use Rattle.sig_cells.specs.Rows.{GoesTo}
 use Rattle.sig_cells.specs.Instructions.{cells_of, registers_in}
 use Rattle.sig_cells.specs.inner.Tests.{is_end, truth_by}
 use Rattle.sig_cells.proofs.BehindRuns.{before_end, fails_off, fails_on, forth_off, forth_on, further_off, further_on, guard_held, guard_told, next_off, next_on, place_off, place_on, test_asks, within_off, within_on}

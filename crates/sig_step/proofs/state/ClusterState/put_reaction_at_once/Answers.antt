@@ -1,9 +1,8 @@
-use Rattle.sig_step.proofs.{OnErr, OnOk, subst, TookPrefix, ◌∙◌}
+use Rattle.sig_step.proofs.{last_in}
 use Rattle.sig_step.proofs.state.ClusterState.put_reaction_at_once.Goals as goal
 
 pub returns-clause-all : goal.returns-clause-all
-returns-clause-all g c = subst (λ bytes. OnOk c.put_all.result (g.S.Sink.took c.args.sink.now bytes c.put_all.new.sink)) (c.as_bytes.ensures ∙ c.put_lines.ensures.text) c.put_all.ensures.all
+returns-clause-all g c = c.put_reaction.ensures.all (last_in c.args.self.now.values) (λ number seen below told. told)
 
 pub returns-clause-prefix : goal.returns-clause-prefix
-returns-clause-prefix g c =
-    subst (λ bytes. OnErr c.put_all.result (TookPrefix g.S.Sink.took c.args.sink.now bytes c.put_all.new.sink)) (c.as_bytes.ensures ∙ c.put_lines.ensures.text) c.put_all.ensures.prefix
+returns-clause-prefix g c = c.put_reaction.ensures.prefix (last_in c.args.self.now.values) (λ number seen below told. told)

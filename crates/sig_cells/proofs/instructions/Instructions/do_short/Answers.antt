@@ -1,13 +1,12 @@
 use Rattle.std.proofs.Common.{◌≡◌, ◌<◌, ◌+◌, ◌-◌, ℤ, ℕ, length, refl, sym, subst, arith, rules, w64, to_z, of_z, set, slice_index_or, IsSomeAnd}
 use Rattle.sig_values.proofs.Common.{slice_get_read, to_z-of_z}
-use Rattle.sig_cells.specs.Codes.{instructions_in}
-use Rattle.sig_cells.specs.inner.Rows.{Stops}
+use Rattle.sig_cells.specs.Rows.{Stops, listed}
 use Rattle.sig_cells.specs.Instructions.{Cells, cell, cells_of}
 use Rattle.sig_cells.specs.Opcodes.{work_of}
 use Rattle.sig_cells.specs.inner.Quick.{ComesTo}
 use Rattle.sig_cells.proofs.DoneInARow.{AreDoneTo, blank, coded_reads, coded_stamp, coded_target, done_as, done_one_on, none_done_yet, reads_there, stamp_there, stops_here, target_there, value_done}
-use Rattle.sig_cells.proofs.code.Code.do_short.Goals.{in-Some, in-None+else-not-do_one}
-use Rattle.sig_cells.proofs.code.Code.do_short.Goals as goal
+use Rattle.sig_cells.proofs.instructions.Instructions.do_short.Goals.{in-Some, in-None+else-not-do_one}
+use Rattle.sig_cells.proofs.instructions.Instructions.do_short.Goals as goal
 
 pub loop-left-init : goal.loop-left-init
 loop-left-init c =
@@ -26,7 +25,7 @@ slice_copy_out-value_by c =
     let end = c.requires.within in
     let some = c.loop-left-test.true in
     let place = c.args.to - c.loop-left.left in
-    let within : place < length (instructions_in c.args.self.now) = omega (arith, l, b, end, some) in
+    let within : place < length (listed c.args.self.now) = omega (arith, l, b, end, some) in
     (coded_reads c.args.self.now c.args.inputs.now c.args.instant c.args.from (cells_of c.args.cells.now c.args.stamps.now c.args.taken.now) place c.loop-left.cells c.loop-left.stamps c.loop-left.taken c.loop-left.invariant.done c.as_slice-coded.result.now c.as_slice-coded.ensures.value within).0
 
 pub slice_copy_out-value_by-in-loop-left : goal.slice_copy_out-value_by-in-loop-left
@@ -36,7 +35,7 @@ slice_copy_out-value_by-in-loop-left c =
     let end = c.requires.within in
     let some = c.loop-left-test.true in
     let place = c.args.to - c.loop-left.left in
-    let within : place < length (instructions_in c.args.self.now) = omega (arith, l, b, end, some) in
+    let within : place < length (listed c.args.self.now) = omega (arith, l, b, end, some) in
     (coded_reads c.args.self.now c.args.inputs.now c.args.instant c.args.from (cells_of c.args.cells.now c.args.stamps.now c.args.taken.now) place c.loop-left.cells c.loop-left.stamps c.loop-left.taken c.loop-left.invariant.done c.as_slice-coded.result.now c.as_slice-coded.ensures.value within).1
 
 pub bounds-cells-one : goal.bounds-cells-one
@@ -46,7 +45,7 @@ bounds-cells-one c =
     let end = c.requires.within in
     let some = c.loop-left-test.true in
     let place = c.args.to - c.loop-left.left in
-    let within : place < length (instructions_in c.args.self.now) = omega (arith, l, b, end, some) in
+    let within : place < length (listed c.args.self.now) = omega (arith, l, b, end, some) in
     coded_target c.args.self.now c.args.inputs.now c.args.instant c.args.from (cells_of c.args.cells.now c.args.stamps.now c.args.taken.now) place c.loop-left.cells c.loop-left.stamps c.loop-left.taken c.loop-left.invariant.done c.as_slice-coded.result.now c.as_slice-coded.ensures.value within
 
 pub bounds-stamps-one : goal.bounds-stamps-one
@@ -56,7 +55,7 @@ bounds-stamps-one c =
     let end = c.requires.within in
     let some = c.loop-left-test.true in
     let place = c.args.to - c.loop-left.left in
-    let within : place < length (instructions_in c.args.self.now) = omega (arith, l, b, end, some) in
+    let within : place < length (listed c.args.self.now) = omega (arith, l, b, end, some) in
     coded_stamp c.args.self.now c.args.inputs.now c.args.instant c.args.from (cells_of c.args.cells.now c.args.stamps.now c.args.taken.now) place c.loop-left.cells c.loop-left.stamps c.loop-left.taken c.loop-left.invariant.done c.as_slice-coded.result.now c.as_slice-coded.ensures.value within
 
 pub do_one-requires-clause-reads : goal.do_one-requires-clause-reads
@@ -66,8 +65,8 @@ do_one-requires-clause-reads c =
     let end = c.requires.within in
     let some = c.loop-left-test.true in
     let place = c.args.to - c.loop-left.left in
-    let within : place < length (instructions_in c.args.self.now) = omega (arith, l, b, end, some) in
-    let at = slice_get_read c.args.self.now.instructions.items (length c.args.self.now.instructions.items) place c.index-instruction.result.now refl within c.index-instruction.ensures in
+    let within : place < length (listed c.args.self.now) = omega (arith, l, b, end, some) in
+    let at = slice_get_read c.args.self.now.listed.items (length c.args.self.now.listed.items) place c.index-instruction.result.now refl within c.index-instruction.ensures in
     reads_there c.args.self.now c.args.inputs.now c.args.instant c.args.from (cells_of c.args.cells.now c.args.stamps.now c.args.taken.now) place (cells_of c.loop-left.cells c.loop-left.stamps c.loop-left.taken) c.loop-left.invariant.done c.index-instruction.result.now at
 
 pub do_one-requires-clause-cells : goal.do_one-requires-clause-cells
@@ -77,8 +76,8 @@ do_one-requires-clause-cells c =
     let end = c.requires.within in
     let some = c.loop-left-test.true in
     let place = c.args.to - c.loop-left.left in
-    let within : place < length (instructions_in c.args.self.now) = omega (arith, l, b, end, some) in
-    let at = slice_get_read c.args.self.now.instructions.items (length c.args.self.now.instructions.items) place c.index-instruction.result.now refl within c.index-instruction.ensures in
+    let within : place < length (listed c.args.self.now) = omega (arith, l, b, end, some) in
+    let at = slice_get_read c.args.self.now.listed.items (length c.args.self.now.listed.items) place c.index-instruction.result.now refl within c.index-instruction.ensures in
     target_there c.args.self.now c.args.inputs.now c.args.instant c.args.from (cells_of c.args.cells.now c.args.stamps.now c.args.taken.now) place (cells_of c.loop-left.cells c.loop-left.stamps c.loop-left.taken) c.loop-left.invariant.done c.index-instruction.result.now at
 
 pub do_one-requires-clause-stamps : goal.do_one-requires-clause-stamps
@@ -88,8 +87,8 @@ do_one-requires-clause-stamps c =
     let end = c.requires.within in
     let some = c.loop-left-test.true in
     let place = c.args.to - c.loop-left.left in
-    let within : place < length (instructions_in c.args.self.now) = omega (arith, l, b, end, some) in
-    let at = slice_get_read c.args.self.now.instructions.items (length c.args.self.now.instructions.items) place c.index-instruction.result.now refl within c.index-instruction.ensures in
+    let within : place < length (listed c.args.self.now) = omega (arith, l, b, end, some) in
+    let at = slice_get_read c.args.self.now.listed.items (length c.args.self.now.listed.items) place c.index-instruction.result.now refl within c.index-instruction.ensures in
     stamp_there c.args.self.now c.args.inputs.now c.args.instant c.args.from (cells_of c.args.cells.now c.args.stamps.now c.args.taken.now) place (cells_of c.loop-left.cells c.loop-left.stamps c.loop-left.taken) c.loop-left.invariant.done c.index-instruction.result.now at
 
 pub returns-then-not-do_one-clause-stops : goal.returns-then-not-do_one-clause-stops
@@ -99,9 +98,9 @@ returns-then-not-do_one-clause-stops c = λ before.
     let end = c.requires.within in
     let some = c.loop-left-test.true in
     let place = c.args.to - c.loop-left.left in
-    let within : place < length (instructions_in c.args.self.now) = omega (arith, l, b, end, some) in
-    let at = slice_get_read c.args.self.now.instructions.items (length c.args.self.now.instructions.items) place c.index-instruction.result.now refl within c.index-instruction.ensures in
-    subst (λ (s : Cells). Stops (instructions_in c.args.self.now) c.args.inputs.now place s) (sym (c.do_one.ensures.same c.if-not-do_one.true)) (stops_here c.args.self.now c.args.inputs.now c.args.instant c.args.from (cells_of c.args.cells.now c.args.stamps.now c.args.taken.now) place (cells_of c.loop-left.cells c.loop-left.stamps c.loop-left.taken) c.loop-left.invariant.done c.index-instruction.result.now at (c.do_one.ensures.fault c.if-not-do_one.true))
+    let within : place < length (listed c.args.self.now) = omega (arith, l, b, end, some) in
+    let at = slice_get_read c.args.self.now.listed.items (length c.args.self.now.listed.items) place c.index-instruction.result.now refl within c.index-instruction.ensures in
+    subst (λ (s : Cells). Stops (listed c.args.self.now) c.args.inputs.now place s) (sym (c.do_one.ensures.same c.if-not-do_one.true)) (stops_here c.args.self.now c.args.inputs.now c.args.instant c.args.from (cells_of c.args.cells.now c.args.stamps.now c.args.taken.now) place (cells_of c.loop-left.cells c.loop-left.stamps c.loop-left.taken) c.loop-left.invariant.done c.index-instruction.result.now at (c.do_one.ensures.fault c.if-not-do_one.true))
 
 pub loop-left-preserved : goal.loop-left-preserved
 loop-left-preserved c = elim c.match-value_by.branch [
@@ -111,7 +110,7 @@ loop-left-preserved c = elim c.match-value_by.branch [
       let end = c.requires.within in
       let some = c.loop-left-test.true in
       let place = c.args.to - c.loop-left.left in
-      let within : place < length (instructions_in c.args.self.now) = omega (arith, l, b, end, some) in
+      let within : place < length (listed c.args.self.now) = omega (arith, l, b, end, some) in
       let one = slice_index_or c.as_slice-coded.result.now place blank in
       let v = to_z w64 (of_z w64 w.in-Some.value) in
       let on : place + 1 ≡ c.args.to - (c.loop-left.left - 1) = omega (arith, l, b, some) in
@@ -131,8 +130,8 @@ loop-left-preserved c = elim c.match-value_by.branch [
       let end = c.requires.within in
       let some = c.loop-left-test.true in
       let place = c.args.to - c.loop-left.left in
-      let within : place < length (instructions_in c.args.self.now) = omega (arith, l, b, end, some) in
-      let at = slice_get_read c.args.self.now.instructions.items (length c.args.self.now.instructions.items) place w.index-instruction.result.now refl within w.index-instruction.ensures in
+      let within : place < length (listed c.args.self.now) = omega (arith, l, b, end, some) in
+      let at = slice_get_read c.args.self.now.listed.items (length c.args.self.now.listed.items) place w.index-instruction.result.now refl within w.index-instruction.ensures in
       let on : place + 1 ≡ c.args.to - (c.loop-left.left - 1) = omega (arith, l, b, some) in
       record {
         left = omega (arith, l);
