@@ -4,8 +4,6 @@ pub use Rattle.std.proofs.lemmas.Bool.Decides.{leb_tells}
 pub use Rattle.std.proofs.lemmas.Grind.{flat_map-append}
 pub use Rattle.std.proofs.lemmas.List.{drop-append-le, drop_all}
 pub use Rattle.sig_values.proofs.Common.{Joins, TookPrefix, TookPrefix-longer, TookPrefix-then, longest_lines}
-pub use Rattle.sig_values.proofs.LastOutputs.{lines_from, room_for_it, short_more, text_more}
-pub use Rattle.sig_values.proofs.OutputLines.{interface_fits}
 pub use Rattle.sig_doing_laws.proofs.Committed.{begins_longest, limit_end, next_instant}
 pub use Rattle.sig_doing_laws.proofs.CommittedInstant.{committed_more, lines_are, next_amid, none_committed, opening_amid}
 pub use Rattle.sig_doing_laws.proofs.Common.{Actor, AreFlowsFor, Cause, Ended, IsAccepted, IsAmid, IsCommitted, IsEnd, IsPrefixOf, Kernel, Limit, PlanView, Signal, Trace, instant_text, opening_actor, output_text, outputs_of, text_prefix}

@@ -6,12 +6,12 @@ ghost use Rattle.sig_alone.specs.Ready.{IsReady};
 ghost use Rattle.sig_alone.specs.Runs.{IsWholeRest, TookSomeRest};
 
 use crate::gates::Open;
-use crate::plans::outputs_of;
 use sig_flow::OutputLines;
 use sig_kernel::Inputs;
 use sig_machine::{Lowered, Machine, lower};
 use sig_plan::{Ended, Plan};
 use sig_text::{Sink, WriteFault};
+use sig_values::lines_for;
 use std::alloc::{AllocError, Global};
 
 /// A run that stands at its opening: the instructions of its plan, their machine, and room for the text of an instant.
@@ -30,7 +30,7 @@ impl ReadyRun {
     {
         let lowered = lower(alloc, plan)?;
         let machine = Machine::new(alloc, plan, &lowered, inputs)?;
-        let lines = OutputLines::new(alloc, outputs_of(plan))?;
+        let lines = lines_for(alloc, plan)?;
         Ok(ReadyRun {
             lowered,
             machine,

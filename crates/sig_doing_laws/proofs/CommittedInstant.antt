@@ -1,5 +1,5 @@
 -- An actor behind the last place: its instant is committed, and it goes on with the next one.
-use Rattle.sig_doing_laws.proofs.Common.{◌≡◌, ◌<◌, ◌+◌, ◌++◌, ℕ, suc, ℤ, pos, Bool, true, false, List, [], ◌∷◌, length, map, get_or, drop, refl, ap, sym, subst, ◌∙◌, arith, Contains, Some, is_some, slice_get, range_with_len, length-append, length-drop, length-take, Contains-append_left, Contains-append_right, get_or-map-range_with_len, length-map-range_with_len, Bounded, Instant, Trace, seen_at, EqId, SigId, signal_id, IsCommitted, IsAmid, instant_behind, IsWrittenBefore, StandsBefore, instant_text, output_text, outputs_of, seen_lines, target_of, AreFlowsFor, Equation, Form, Delay, Kernel, no_instants, IsWithinBounds, compiled, Compiled, without_faults, place_of, fitting, among_each, IsClean, clean_more, none_where, Actor, opening_actor, IsReference, reaction_in, Operation, equation_id, of_each, operations_in, operations_of, read_of, store_of, stores_of, writes_of, IsAccepted, PlanView, numbers_of, OpKind, Read, Store, at_contained, contains_head, got}
+use Rattle.sig_doing_laws.proofs.Common.{compiled_operations, compiled_order, ◌≡◌, ◌<◌, ◌+◌, ◌++◌, suc, ℤ, pos, Bool, true, false, List, [], ◌∷◌, length, map, get_or, drop, refl, ap, sym, subst, ◌∙◌, arith, Contains, Some, is_some, slice_get, range_with_len, length-append, length-drop, length-take, Contains-append_left, Contains-append_right, get_or-map-range_with_len, length-map-range_with_len, Bounded, Instant, Trace, seen_at, EqId, SigId, signal_id, IsCommitted, IsAmid, instant_behind, IsWrittenBefore, StandsBefore, instant_text, output_text, outputs_of, seen_lines, target_of, AreFlowsFor, Equation, Form, Delay, Kernel, no_instants, IsWithinBounds, compiled, Compiled, without_faults, place_of, fitting, among_each, IsClean, clean_more, none_where, Actor, opening_actor, IsReference, reaction_in, Operation, equation_id, of_each, operations_in, operations_of, read_of, store_of, stores_of, writes_of, IsAccepted, PlanView, numbers_of, OpKind, Read, Store, at_contained, contains_head, got}
 use Rattle.sig_doing_laws.proofs.Committed.{committed_clean}
 use Rattle.sig_doing_laws.proofs.DefinedOnce.{defined_once, initial_is}
 use Rattle.sig_doing_laws.proofs.ReferenceInstant.{goes_on, written_is_there, written_somewhere}
@@ -9,55 +9,46 @@ use Rattle.sig_doing_laws.proofs.Places.{places, to_place}
 -- ---- the operations of inputs and delays stand in the order
 
 module _ (plan : PlanView) (accepted : IsAccepted plan) where
-  abbrev kernel : Kernel
-  kernel = plan.kernel
-
-  abbrev operations : List Operation
-  operations = operations_in plan.store.nodes plan.ops
-
-  abbrev order : List ℕ
-  order = numbers_of plan.order
-
-  abbrev c : Compiled kernel plan.clocks.conditions operations order
+  abbrev c : Compiled plan.kernel plan.clocks.conditions (compiled_operations plan) (compiled_order plan)
   c = compiled plan accepted
 
   abbrev reads : List Operation
-  reads = map (λ number. read_of kernel.signals c.has.presence (signal_id number)) (range_with_len 0 kernel.inputs)
+  reads = map (λ number. read_of plan.kernel.signals c.has.presence (signal_id number)) (range_with_len 0 plan.kernel.inputs)
 
   abbrev writes : List Operation
-  writes = of_each (writes_of kernel.signals c.has.presence) 0 kernel.equations
+  writes = of_each (writes_of plan.kernel.signals c.has.presence) 0 plan.kernel.equations
 
   abbrev stores : List Operation
-  stores = of_each (stores_of kernel.signals c.has.presence) 0 kernel.equations
+  stores = of_each (stores_of plan.kernel.signals c.has.presence) 0 plan.kernel.equations
 
-  stands_in_order : (p : Operation) → Contains (operations_of kernel c.has.presence) p → StandsBefore plan (length order) p.kind
+  stands_in_order : (p : Operation) → Contains (operations_of plan.kernel c.has.presence) p → StandsBefore plan (length (compiled_order plan)) p.kind
   stands_in_order p among =
-      let contained : Contains operations p = subst (λ (ps : List Operation). Contains ps p) (sym c.has.are) among in
-      let place = place_of kernel plan.clocks.conditions operations order (λ y x initial. initial) (λ input. pos 0) c contained.0 p (at_contained operations p contained) in
-      let full : length order ≡ length operations = c.ordered.all in
+      let contained : Contains (compiled_operations plan) p = subst (λ (ps : List Operation). Contains ps p) (sym c.has.are) among in
+      let place = place_of plan.kernel plan.clocks.conditions (compiled_operations plan) (compiled_order plan) (λ y x initial. initial) (λ input. pos 0) c contained.0 p (at_contained (compiled_operations plan) p contained) in
+      let full : length (compiled_order plan) ≡ length (compiled_operations plan) = c.ordered.all in
       let there = to_place plan place.0 p (omega (arith, place.1, full)) place.2 in
       record { at = place.0; earlier = omega (arith, place.1, full); op = there.0; stands = there.1; does = ap (λ (q : Operation). q.kind) there.2 }
 
-  pub read_stands : (x : SigId) → x.0 < kernel.inputs → StandsBefore plan (length order) (Read x)
-  read_stands x lt = stands_in_order (read_of kernel.signals c.has.presence x)
-      (Contains-append_left (reads ++ writes) stores (read_of kernel.signals c.has.presence x)
-      (Contains-append_left reads writes (read_of kernel.signals c.has.presence x) (
+  pub read_stands : (x : SigId) → x.0 < plan.kernel.inputs → StandsBefore plan (length (compiled_order plan)) (Read x)
+  read_stands x lt = stands_in_order (read_of plan.kernel.signals c.has.presence x)
+      (Contains-append_left (reads ++ writes) stores (read_of plan.kernel.signals c.has.presence x)
+      (Contains-append_left reads writes (read_of plan.kernel.signals c.has.presence x) (
         x.0,
-        omega (arith, lt, length-map-range_with_len (λ number. read_of kernel.signals c.has.presence (signal_id number)) 0 kernel.inputs),
-        get_or-map-range_with_len (λ number. read_of kernel.signals c.has.presence (signal_id number)) 0 kernel.inputs x.0 x.0 (read_of kernel.signals c.has.presence x) lt (omega arith),
+        omega (arith, lt, length-map-range_with_len (λ number. read_of plan.kernel.signals c.has.presence (signal_id number)) 0 plan.kernel.inputs),
+        get_or-map-range_with_len (λ number. read_of plan.kernel.signals c.has.presence (signal_id number)) 0 plan.kernel.inputs x.0 x.0 (read_of plan.kernel.signals c.has.presence x) lt (omega arith),
       )))
 
-  pub store_stands : (e : EqId) (equation : Equation) (y x : SigId) (initial : ℤ) → slice_get kernel.equations e.0 ≡ Some equation → equation.form ≡ Delay y x initial → StandsBefore plan (length order) (Store e)
+  pub store_stands : (e : EqId) (equation : Equation) (y x : SigId) (initial : ℤ) → slice_get plan.kernel.equations e.0 ≡ Some equation → equation.form ≡ Delay y x initial → StandsBefore plan (length (compiled_order plan)) (Store e)
   store_stands e equation y x initial at form =
-      let there = got kernel.equations e.0 equation equation at in
-      let p : Operation = store_of kernel.signals c.has.presence e y x in
-      let shape : (get_or kernel.equations e.0 equation).form ≡ Delay y x initial = ap (λ (q : Equation). q.form) there.1 ∙ form in
-      let made : Contains (stores_of kernel.signals c.has.presence e (get_or kernel.equations e.0 equation).form) p =
-      subst (λ (f : Form). Contains (stores_of kernel.signals c.has.presence e f) p) (sym shape) (contains_head p []) in
+      let there = got plan.kernel.equations e.0 equation equation at in
+      let p : Operation = store_of plan.kernel.signals c.has.presence e y x in
+      let shape : (get_or plan.kernel.equations e.0 equation).form ≡ Delay y x initial = ap (λ (q : Equation). q.form) there.1 ∙ form in
+      let made : Contains (stores_of plan.kernel.signals c.has.presence e (get_or plan.kernel.equations e.0 equation).form) p =
+      subst (λ (f : Form). Contains (stores_of plan.kernel.signals c.has.presence e f) p) (sym shape) (contains_head p []) in
       let same : e.0 ≡ 0 + e.0 = omega arith in
       stands_in_order p (Contains-append_right (reads ++ writes) stores p
-      (among_each (stores_of kernel.signals c.has.presence) 0 kernel.equations e.0 equation p there.0
-      (subst (λ m. Contains (stores_of kernel.signals c.has.presence (equation_id m) (get_or kernel.equations e.0 equation).form) p) same made)))
+      (among_each (stores_of plan.kernel.signals c.has.presence) 0 plan.kernel.equations e.0 equation p there.0
+      (subst (λ m. Contains (stores_of plan.kernel.signals c.has.presence (equation_id m) (get_or plan.kernel.equations e.0 equation).form) p) same made)))
 
 -- ---- the beginning
 

@@ -33,3 +33,4 @@ pub use Rattle.sig_meaning_laws.proofs.WithinBounds.{bounds_without_faults}
 pub use Rattle.sig_doing_laws.specs.Commits.{IsCommitted}
 pub use Rattle.sig_doing_laws.specs.Doing.{AreAlike, IsAmid, instant_behind, stepped}
 pub use Rattle.sig_doing_laws.specs.Places.{IsDone, IsWrittenBefore, StandsAt, StandsBefore}
+pub use Rattle.sig_doing_laws.proofs.CompiledLists.{compiled_operations, compiled_order}

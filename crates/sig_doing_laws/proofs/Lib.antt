@@ -1,3 +1,4 @@
+pub mod CompiledLists
 pub mod Common
 pub mod Amid
 pub mod Committed

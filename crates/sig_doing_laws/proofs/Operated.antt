@@ -1,5 +1,5 @@
 -- An operation that is done and comes to a value meets no fault, and leaves an actor amid the instant.
-use Rattle.sig_doing_laws.proofs.Common.{◌≡◌, ◌<◌, ◌≤◌, ◌+◌, ◌++◌, ◌⊎◌, inl, inr, ℕ, ℤ, Bool, true, false, cond, List, [], ◌∷◌, length, map, get_or, refl, ap, sym, subst, ◌∙◌, arith, Contains, Option, None, Some, slice_get, slice_index, option_to_list, ◌==◌, eq-eqb, eqb-true, length-append, Function, Instant, Seen, Trace, flow_of, seen_at, EqId, SigId, abstraction_of, test, IsAmid, stepped, IsDone, IsWrittenBefore, StandsAt, StandsBefore, Memory, function_of, remembered, target_of, AreFlowsFor, Equation, Delay, Kernel, IsAt, IsOutcome, compiled, Compiled, fitting, flow_more, next_in, is_outcome, Fitting, stored, form_in, have_map, same_operands, Actor, truths_of, with_at, with_signal, Computes, HasFault, Meets, Faults, Gives, bounded, computed, computed_at, computed_by, computed_for, defined_by, first_in, next_of, operand_in, operated, outcome, outcome_by, remembers, taken_by, divides_by_zero, has_64_bits, result_of, Operation, operation_in, operations_in, Keeps, Precedes, IsAccepted, PlanView, numbers_of, Cause, Exhausted, Limit, Overflow, ZeroDivisor, Op, OpKind, Compute, DelayRead, Left, Read, Right, Store, written_by_one, kept_order, stands_once, cases_eq, got}
+use Rattle.sig_doing_laws.proofs.Common.{compiled_operations, compiled_order, ◌≡◌, ◌<◌, ◌≤◌, ◌+◌, ◌++◌, ◌⊎◌, inl, inr, ℕ, ℤ, Bool, true, false, cond, List, [], ◌∷◌, length, map, get_or, refl, ap, sym, subst, ◌∙◌, arith, Contains, Option, None, Some, slice_get, slice_index, option_to_list, ◌==◌, eq-eqb, eqb-true, length-append, Function, Instant, Seen, Trace, flow_of, seen_at, EqId, SigId, abstraction_of, test, IsAmid, stepped, IsDone, IsWrittenBefore, StandsAt, StandsBefore, function_of, remembered, target_of, AreFlowsFor, Equation, Delay, IsAt, IsOutcome, compiled, Compiled, fitting, flow_more, next_in, is_outcome, Fitting, stored, form_in, have_map, same_operands, Actor, truths_of, with_at, with_signal, Computes, HasFault, Meets, Faults, Gives, bounded, computed, computed_at, computed_by, computed_for, defined_by, first_in, next_of, operand_in, operated, outcome, outcome_by, remembers, taken_by, divides_by_zero, has_64_bits, result_of, Operation, operation_in, Keeps, Precedes, IsAccepted, PlanView, Cause, Exhausted, Limit, Overflow, ZeroDivisor, Op, OpKind, Compute, DelayRead, Left, Read, Right, Store, written_by_one, kept_order, stands_once, cases_eq, got}
 use Rattle.sig_doing_laws.proofs.Amid.{guard_known, here, place_within, reads_known, sound_next}
 use Rattle.sig_doing_laws.proofs.Committed.{committed_clean}
 use Rattle.sig_doing_laws.proofs.DefinedOnce.{defined_once, one_memory, same_equation, same_signal}
@@ -61,37 +61,22 @@ one_longer trace instant x =
 module _ (plan : PlanView) (accepted : IsAccepted plan) (flows : List (List ℤ)) (fit : AreFlowsFor plan.kernel flows) (trace : Trace) (instant : Instant)
     (actor : Actor) (amid : IsAmid plan flows trace instant actor) (op : Op) (stands : StandsAt plan actor.step op)
     (ready : test plan.store.nodes op.guard (truths_of plan.clocks.conditions actor.registers) ≡ true) where
-  abbrev kernel : Kernel
-  kernel = plan.kernel
-
-  abbrev conditions : List SigId
-  conditions = plan.clocks.conditions
-
-  abbrev operations : List Operation
-  operations = operations_in plan.store.nodes plan.ops
-
-  abbrev order : List ℕ
-  order = numbers_of plan.order
-
-  abbrev c : Compiled kernel conditions operations order
+  abbrev c : Compiled plan.kernel plan.clocks.conditions (compiled_operations plan) (compiled_order plan)
   c = compiled plan accepted
 
-  abbrev f : Fitting kernel flows
+  abbrev f : Fitting plan.kernel flows
   f = fitting plan accepted flows fit
 
-  abbrev memory : Memory
-  memory = remembered trace
-
   abbrev next : ℕ → ℤ
-  next = next_in kernel flows trace
+  next = next_in plan.kernel flows trace
 
   abbrev own : List Bool
-  own = truths_of conditions (seen_at instant)
+  own = truths_of plan.clocks.conditions (seen_at instant)
 
   abbrev q : Operation
   q = operation_in plan.store.nodes op
 
-  abbrev at : slice_get operations (slice_index order actor.step) ≡ Some q
+  abbrev at : slice_get (compiled_operations plan) (slice_index (compiled_order plan) actor.step) ≡ Some q
   at = (here plan accepted flows fit trace instant actor amid op stands).1
 
   pub done : IsDone plan instant op
@@ -103,12 +88,12 @@ module _ (plan : PlanView) (accepted : IsAccepted plan) (flows : List (List ℤ)
       let is = read_is plan accepted flows fit trace instant amid.behind amid.next actor.step op stands x kind in
       let too = read_is plan accepted flows fit trace instant amid.behind amid.next b.at b.op b.stands x b.does in
       let there = at_place plan b.at b.op b.stands in
-      let one = written_by_one kernel c.valid conditions operations c.has own (abstraction_of kernel.signals instant) (speaks plan accepted flows fit trace instant amid.behind amid.next)
-      (keeps plan accepted flows fit trace instant amid.behind amid.next) (slice_index order b.at) (slice_index order actor.step) (operation_in plan.store.nodes b.op) q x there.1 at too.0 is.0
+      let one = written_by_one plan.kernel c.valid plan.clocks.conditions (compiled_operations plan) c.has own (abstraction_of plan.kernel.signals instant) (speaks plan accepted flows fit trace instant amid.behind amid.next)
+      (keeps plan accepted flows fit trace instant amid.behind amid.next) (slice_index (compiled_order plan) b.at) (slice_index (compiled_order plan) actor.step) (operation_in plan.store.nodes b.op) q x there.1 at too.0 is.0
       (too.2 ∙ sym is.2 ∙ done) done in
-      let same = stands_once (Precedes conditions operations) (length operations) order c.ordered b.at actor.step (omega (arith, b.earlier, within)) within one in
+      let same = stands_once (Precedes plan.clocks.conditions (compiled_operations plan)) (length (compiled_operations plan)) (compiled_order plan) c.ordered b.at actor.step (omega (arith, b.earlier, within)) within one in
       omega (arith, same, b.earlier) where
-        within : actor.step < length operations
+        within : actor.step < length (compiled_operations plan)
         within = place_within plan accepted flows fit trace instant actor amid op stands
 
   -- the read of a delay stands before its store
@@ -116,33 +101,33 @@ module _ (plan : PlanView) (accepted : IsAccepted plan) (flows : List (List ℤ)
   memory_first e kind is_e b =
       let there = at_place plan b.at b.op b.stands in
       let keeping : Keeps q (operation_in plan.store.nodes b.op) = record { delay = e; read = kind; of = is_e; store = b.does } in
-      let precedes : Precedes conditions operations (slice_index order actor.step) (slice_index order b.at) = record { p = q; q = operation_in plan.store.nodes b.op; is = at; other = there.1; before = inr (inr keeping) } in
-      let earlier = kept_order (Precedes conditions operations) (length operations) order c.ordered b.at (omega (arith, b.earlier, within)) (slice_index order actor.step) precedes in
-      let same = stands_once (Precedes conditions operations) (length operations) order c.ordered earlier.0 actor.step (omega (arith, earlier.1, b.earlier, within)) within earlier.2 in
+      let precedes : Precedes plan.clocks.conditions (compiled_operations plan) (slice_index (compiled_order plan) actor.step) (slice_index (compiled_order plan) b.at) = record { p = q; q = operation_in plan.store.nodes b.op; is = at; other = there.1; before = inr (inr keeping) } in
+      let earlier = kept_order (Precedes plan.clocks.conditions (compiled_operations plan)) (length (compiled_operations plan)) (compiled_order plan) c.ordered b.at (omega (arith, b.earlier, within)) (slice_index (compiled_order plan) actor.step) precedes in
+      let same = stands_once (Precedes plan.clocks.conditions (compiled_operations plan)) (length (compiled_operations plan)) (compiled_order plan) c.ordered earlier.0 actor.step (omega (arith, earlier.1, b.earlier, within)) within earlier.2 in
       omega (arith, same, earlier.1, b.earlier) where
-        within : actor.step < length operations
+        within : actor.step < length (compiled_operations plan)
         within = place_within plan accepted flows fit trace instant actor amid op stands
 
-  pub is_at : IsAt kernel trace instant op actor
+  pub is_at : IsAt plan.kernel trace instant op actor
   is_at = record {
     reads = reads_known plan accepted flows fit trace instant actor amid op stands done;
     memories = λ number y x initial equation there form writes.
         let e : EqId = record { 0 = number } in
-        let reading = one_memory kernel c.valid c.has.presence e y x initial equation there form q (among plan accepted flows fit trace instant amid.behind amid.next actor.step op stands) writes in
+        let reading = one_memory plan.kernel c.valid c.has.presence e y x initial equation there form q (among plan accepted flows fit trace instant amid.behind amid.next actor.step op stands) writes in
         amid.kept e equation y x initial there form (memory_first e reading.0 reading.1);
     taken = λ x kind. amid.unread x (read_is plan accepted flows fit trace instant amid.behind amid.next actor.step op stands x kind).1 (read_first x kind);
   }
 
-  pub outcome_is : IsOutcome kernel flows trace instant q (outcome kernel flows actor op)
-  outcome_is = is_outcome kernel conditions operations order c flows f trace (committed_clean plan accepted flows fit trace amid.behind) instant (goes_on plan accepted flows fit trace instant amid.behind amid.next)
-      plan.store.nodes (slice_index order actor.step) op at actor is_at done
+  pub outcome_is : IsOutcome plan.kernel flows trace instant q (outcome plan.kernel flows actor op)
+  outcome_is = is_outcome plan.kernel plan.clocks.conditions (compiled_operations plan) (compiled_order plan) c flows f trace (committed_clean plan accepted flows fit trace amid.behind) instant (goes_on plan accepted flows fit trace instant amid.behind amid.next)
+      plan.store.nodes (slice_index (compiled_order plan) actor.step) op at actor is_at done
 
-  module _ (v : ℤ) (gives : outcome kernel flows actor op ≡ Gives v) where
+  module _ (v : ℤ) (gives : outcome plan.kernel flows actor op ≡ Gives v) where
     pub given : (x : SigId) → op.writes ≡ Some x → seen_at instant x.0 ≡ Some v
-    given = subst (IsOutcome kernel flows trace instant q) gives outcome_is
+    given = subst (IsOutcome plan.kernel flows trace instant q) gives outcome_is
 
-    by_kind : (kind : OpKind) → op.kind ≡ kind → outcome_by kernel flows actor op kind ≡ Gives v
-    by_kind kind is = ap (outcome_by kernel flows actor op) (sym is) ∙ gives
+    by_kind : (kind : OpKind) → op.kind ≡ kind → outcome_by plan.kernel flows actor op kind ≡ Gives v
+    by_kind kind is = ap (outcome_by plan.kernel flows actor op) (sym is) ∙ gives
 
     -- ---- no fault is met
 
@@ -152,19 +137,19 @@ module _ (plan : PlanView) (accepted : IsAccepted plan) (flows : List (List ℤ)
       by None none = absurd (let g : Faults (Exhausted x) ≡ Gives v = sym (ap (next_of x) none) ∙ by_kind (Read x) kind in cc)
       by (Some w) some = (got (get_or flows x.0 []) (actor.taken x.0) w w some).0
 
-    fine : (e : EqId) → op.kind ≡ Compute → op.eq ≡ Some e → (d : Computes kernel instant e) → (has_64_bits d.result ≡ true) × (divides_by_zero (function_of d.function) d.values ≡ false)
+    fine : (e : EqId) → op.kind ≡ Compute → op.eq ≡ Some e → (d : Computes plan.kernel instant e) → (has_64_bits d.result ≡ true) × (divides_by_zero (function_of d.function) d.values ≡ false)
     fine e kind is_e d =
         let is = compute_is plan accepted flows fit trace instant amid.behind amid.next actor.step op stands kind e is_e d in
         let values : d.values ≡ map (operand_in actor.registers) d.operands =
         have_map instant d.operands d.values d.have ∙ same_operands (seen_at instant) actor.registers d.operands (λ x inside. sym (is_at.reads x (subst (λ (xs : List SigId). Contains xs x) (sym is.1) inside))) in
         let result : computed e (function_of d.function) (map (operand_in actor.registers) d.operands) ≡ Gives v =
-        ap (computed_by actor.registers e) (sym d.form) ∙ ap (computed_at actor.registers e) (sym d.is) ∙ ap (computed_for kernel actor.registers) (sym is_e) ∙ by_kind Compute kind in
+        ap (computed_by actor.registers e) (sym d.form) ∙ ap (computed_at actor.registers e) (sym d.is) ∙ ap (computed_for plan.kernel actor.registers) (sym is_e) ∙ by_kind Compute kind in
         let parts = gives_bounded e (function_of d.function) (map (operand_in actor.registers) d.operands) v result in
         let both : Some d.result ≡ Some v = sym d.gives ∙ given d.target is.0 in
         let same : d.result ≡ v = cc in
         (ap has_64_bits same ∙ parts.1, ap (divides_by_zero (function_of d.function)) values ∙ parts.0)
 
-    no_fault : (cause : Cause) → Meets q cause → HasFault kernel flows trace instant cause → ⊥
+    no_fault : (cause : Cause) → Meets q cause → HasFault plan.kernel flows trace instant cause → ⊥
     no_fault (Exhausted x) kind past = omega (arith, past, within_flow x kind, is_at.taken x kind, one_longer trace instant x.0)
     no_fault (Overflow e) meets fault = let clash : true ≡ false = sym (fine e meets.0 meets.1 fault.0).0 ∙ fault.1 in cc
     no_fault (ZeroDivisor e) meets fault = let clash : true ≡ false = sym fault.1 ∙ (fine e meets.0 meets.1 fault.0).1 in cc
@@ -172,7 +157,7 @@ module _ (plan : PlanView) (accepted : IsAccepted plan) (flows : List (List ℤ)
 
     -- ---- what is stored
 
-    remembers_by : (kind : OpKind) (y : SigId) → remembers kernel kind ≡ Some y → (d : EqId) × (kind ≡ Store d) × (defined_by kernel d ≡ Some y)
+    remembers_by : (kind : OpKind) (y : SigId) → remembers plan.kernel kind ≡ Some y → (d : EqId) × (kind ≡ Store d) × (defined_by plan.kernel d ≡ Some y)
     remembers_by (Store d) y is = (d, refl, is)
     remembers_by (Read x) y is = absurd (let g : None ≡ Some y = is in cc)
     remembers_by Compute y is = absurd (let g : None ≡ Some y = is in cc)
@@ -180,28 +165,28 @@ module _ (plan : PlanView) (accepted : IsAccepted plan) (flows : List (List ℤ)
     remembers_by Right y is = absurd (let g : None ≡ Some y = is in cc)
     remembers_by DelayRead y is = absurd (let g : None ≡ Some y = is in cc)
 
-    defining_equation : (d : EqId) (y : SigId) → defined_by kernel d ≡ Some y → (p : Equation) × (slice_get kernel.equations d.0 ≡ Some p) × (target_of p.form ≡ Some y)
-    defining_equation d y is = by (slice_get kernel.equations d.0) refl where
-      by : (found : Option Equation) → slice_get kernel.equations d.0 ≡ found → (p : Equation) × (slice_get kernel.equations d.0 ≡ Some p) × (target_of p.form ≡ Some y)
+    defining_equation : (d : EqId) (y : SigId) → defined_by plan.kernel d ≡ Some y → (p : Equation) × (slice_get plan.kernel.equations d.0 ≡ Some p) × (target_of p.form ≡ Some y)
+    defining_equation d y is = by (slice_get plan.kernel.equations d.0) refl where
+      by : (found : Option Equation) → slice_get plan.kernel.equations d.0 ≡ found → (p : Equation) × (slice_get plan.kernel.equations d.0 ≡ Some p) × (target_of p.form ≡ Some y)
       by None none = absurd (let g : None ≡ Some y = sym (ap target_in none) ∙ is in cc)
       by (Some p) some = (p, some, sym (ap target_in some) ∙ is)
 
     -- the operation into whose memory goes the delay of a signal is the delay's store
-    is_store : (e : EqId) (equation : Equation) (y x : SigId) (initial : ℤ) → slice_get kernel.equations e.0 ≡ Some equation → equation.form ≡ Delay y x initial
-        → remembers kernel op.kind ≡ Some y → op.kind ≡ Store e
+    is_store : (e : EqId) (equation : Equation) (y x : SigId) (initial : ℤ) → slice_get plan.kernel.equations e.0 ≡ Some equation → equation.form ≡ Delay y x initial
+        → remembers plan.kernel op.kind ≡ Some y → op.kind ≡ Store e
     is_store e equation y x initial there form is =
         let found = remembers_by op.kind y is in
         let p = defining_equation found.0 y found.2 in
-        found.1 ∙ ap Store (same_equation found.0 e (defined_once kernel c.valid found.0.0 e.0 p.0 equation y p.1 there p.2 (ap target_of form)))
+        found.1 ∙ ap Store (same_equation found.0 e (defined_once plan.kernel c.valid found.0.0 e.0 p.0 equation y p.1 there p.2 (ap target_of form)))
 
-    store_remembers : (e : EqId) (equation : Equation) (y x : SigId) (initial : ℤ) → slice_get kernel.equations e.0 ≡ Some equation → equation.form ≡ Delay y x initial
-        → op.kind ≡ Store e → remembers kernel op.kind ≡ Some y
-    store_remembers e equation y x initial there form kind = ap (remembers kernel) kind ∙ ap target_in there ∙ ap target_of form
+    store_remembers : (e : EqId) (equation : Equation) (y x : SigId) (initial : ℤ) → slice_get plan.kernel.equations e.0 ≡ Some equation → equation.form ≡ Delay y x initial
+        → op.kind ≡ Store e → remembers plan.kernel op.kind ≡ Some y
+    store_remembers e equation y x initial there form kind = ap (remembers plan.kernel) kind ∙ ap target_in there ∙ ap target_of form
 
-    now_stored : (e : EqId) (equation : Equation) (y x : SigId) (initial : ℤ) → slice_get kernel.equations e.0 ≡ Some equation → equation.form ≡ Delay y x initial
+    now_stored : (e : EqId) (equation : Equation) (y x : SigId) (initial : ℤ) → slice_get plan.kernel.equations e.0 ≡ Some equation → equation.form ≡ Delay y x initial
         → op.kind ≡ Store e → v ≡ remembered (trace ++ instant ∷ []) y.0 x.0 initial
     now_stored e equation y x initial there form kind =
-        let kept = stored kernel conditions operations order c memory next instant (is_next plan accepted flows fit trace instant amid.behind amid.next) (slice_index order actor.step) q at done e y x initial kind
+        let kept = stored plan.kernel plan.clocks.conditions (compiled_operations plan) (compiled_order plan) c (remembered trace) next instant (is_next plan accepted flows fit trace instant amid.behind amid.next) (slice_index (compiled_order plan) actor.step) q at done e y x initial kind
         (ap form_in there ∙ ap Some form) actor.registers is_at.reads in
         let same : first_in actor.registers op.reads ≡ v = gives_value (first_in actor.registers op.reads) v (by_kind (Store e) kind) in
         sym (remembered_present trace instant y x initial v (kept ∙ ap Some same))
@@ -229,7 +214,7 @@ module _ (plan : PlanView) (accepted : IsAccepted plan) (flows : List (List ℤ)
 
     -- ---- behind the operation
 
-    pub done_behind : IsAmid plan flows trace instant (stepped (operated kernel op v actor))
+    pub done_behind : IsAmid plan flows trace instant (stepped (operated plan.kernel op v actor))
     done_behind = record {
       behind = amid.behind;
       next = amid.next;
@@ -239,10 +224,10 @@ module _ (plan : PlanView) (accepted : IsAccepted plan) (flows : List (List ℤ)
           (λ apart. written x apart (written_before_or_here plan instant actor.step op stands x w));
       unwritten = λ x none. signal_cases (λ s. s ≡ None) op.writes (Some v) actor.registers x (λ writes. absurd (none (written_here plan instant actor.step op stands done x writes)))
           (λ apart. amid.unwritten x (λ w. none (written_later plan instant actor.step x w)));
-      stored = λ e equation y x initial there form before. signal_cases (λ m. m ≡ remembered (trace ++ instant ∷ []) y.0 x.0 initial) (remembers kernel op.kind) v actor.memories y
+      stored = λ e equation y x initial there form before. signal_cases (λ m. m ≡ remembered (trace ++ instant ∷ []) y.0 x.0 initial) (remembers plan.kernel op.kind) v actor.memories y
           (λ is. now_stored e equation y x initial there form (is_store e equation y x initial there form is))
           (λ apart. stored_before e equation y x initial there form apart (stands_before_or_here plan actor.step op stands (Store e) before));
-      kept = λ e equation y x initial there form none. signal_cases (λ m. m ≡ remembered trace y.0 x.0 initial) (remembers kernel op.kind) v actor.memories y
+      kept = λ e equation y x initial there form none. signal_cases (λ m. m ≡ remembered trace y.0 x.0 initial) (remembers plan.kernel op.kind) v actor.memories y
           (λ is. absurd (none (stands_here plan actor.step op stands (Store e) (is_store e equation y x initial there form is))))
           (λ apart. amid.kept e equation y x initial there form (λ before. none (stands_later plan actor.step (Store e) before)));
       read = λ x lt before. taken_cases (λ n. n ≡ length (flow_of x.0 (trace ++ instant ∷ []))) op.kind x (now_read x) (λ apart. read x lt apart (stands_before_or_here plan actor.step op stands (Read x) before));
@@ -254,11 +239,11 @@ module _ (plan : PlanView) (accepted : IsAccepted plan) (flows : List (List ℤ)
       written x apart (inl before) = amid.written x before
       written x apart (inr now) = absurd (apart now.0)
 
-      stored_before : (e : EqId) (equation : Equation) (y x : SigId) (initial : ℤ) → slice_get kernel.equations e.0 ≡ Some equation → equation.form ≡ Delay y x initial
-          → (remembers kernel op.kind ≡ Some y → ⊥) → StandsBefore plan actor.step (Store e) ⊎ (op.kind ≡ Store e) → actor.memories y.0 ≡ remembered (trace ++ instant ∷ []) y.0 x.0 initial
+      stored_before : (e : EqId) (equation : Equation) (y x : SigId) (initial : ℤ) → slice_get plan.kernel.equations e.0 ≡ Some equation → equation.form ≡ Delay y x initial
+          → (remembers plan.kernel op.kind ≡ Some y → ⊥) → StandsBefore plan actor.step (Store e) ⊎ (op.kind ≡ Store e) → actor.memories y.0 ≡ remembered (trace ++ instant ∷ []) y.0 x.0 initial
       stored_before e equation y x initial there form apart (inl before) = amid.stored e equation y x initial there form before
       stored_before e equation y x initial there form apart (inr kind) = absurd (apart (store_remembers e equation y x initial there form kind))
 
-      read : (x : SigId) → x.0 < kernel.inputs → (op.kind ≡ Read x → ⊥) → StandsBefore plan actor.step (Read x) ⊎ (op.kind ≡ Read x) → actor.taken x.0 ≡ length (flow_of x.0 (trace ++ instant ∷ []))
+      read : (x : SigId) → x.0 < plan.kernel.inputs → (op.kind ≡ Read x → ⊥) → StandsBefore plan actor.step (Read x) ⊎ (op.kind ≡ Read x) → actor.taken x.0 ≡ length (flow_of x.0 (trace ++ instant ∷ []))
       read x lt apart (inl before) = amid.read x lt before
       read x lt apart (inr kind) = absurd (apart kind)

@@ -1,5 +1,5 @@
 -- The operations at the places of a plan's order.
-use Rattle.sig_doing_laws.proofs.Common.{◌≡◌, ◌<◌, ◌≤◌, ◌+◌, ◌⊎◌, inl, inr, ℕ, zero, suc, List, [], ◌∷◌, length, refl, ap, sym, subst, ◌∙◌, arith, Some, slice_get, slice_index, length-map, Instant, EqId, OpId, SigId, Node, IsDone, IsWrittenBefore, StandsAt, StandsBefore, Decided, at_most_or, Operation, operation_in, operations_in, IsAccepted, PlanView, numbers_of, Op, OpKind, Compute, DelayRead, Left, Read, Right, Store, slice_get-get_or, got, some_at, cases_eq}
+use Rattle.sig_doing_laws.proofs.Common.{compiled_operations, compiled_order, ◌≡◌, ◌<◌, ◌≤◌, ◌+◌, ◌⊎◌, inl, inr, ℕ, zero, suc, List, [], ◌∷◌, length, refl, ap, sym, subst, ◌∙◌, arith, Some, slice_get, slice_index, length-map, Instant, EqId, OpId, SigId, Node, IsDone, IsWrittenBefore, StandsAt, StandsBefore, Decided, at_most_or, Operation, operation_in, operations_in, IsAccepted, PlanView, numbers_of, Op, OpKind, Compute, DelayRead, Left, Read, Right, Store, slice_get-get_or, got, some_at, cases_eq}
 
 -- ---- operations, and their numbers
 
@@ -25,25 +25,19 @@ id_at (i ∷ ids) zero n is = (i, refl, let e : Some i.0 ≡ Some n = is in cc)
 id_at (i ∷ ids) (suc k) n is = id_at ids k n is
 
 module _ (plan : PlanView) where
-  abbrev operations : List Operation
-  operations = operations_in plan.store.nodes plan.ops
-
-  abbrev order : List ℕ
-  order = numbers_of plan.order
-
-  pub places : length order ≡ length plan.order
+  pub places : length (compiled_order plan) ≡ length plan.order
   places = length-map plan.order (λ (id : OpId). id.0)
 
   -- what stands at a place, as an operation of the kernel
-  pub at_place : (k : ℕ) (op : Op) → StandsAt plan k op → (k < length order) × (slice_get operations (slice_index order k) ≡ Some (operation_in plan.store.nodes op))
+  pub at_place : (k : ℕ) (op : Op) → StandsAt plan k op → (k < length (compiled_order plan)) × (slice_get (compiled_operations plan) (slice_index (compiled_order plan) k) ≡ Some (operation_in plan.store.nodes op))
   at_place k op stands =
-      let there = got order k 0 stands.number.0 (number_at plan.order k stands.number stands.ordered) in
-      (there.0, ap (slice_get operations) there.1 ∙ made_at plan.store.nodes plan.ops stands.number.0 op stands.is)
+      let there = got (compiled_order plan) k 0 stands.number.0 (number_at plan.order k stands.number stands.ordered) in
+      (there.0, ap (slice_get (compiled_operations plan)) there.1 ∙ made_at plan.store.nodes plan.ops stands.number.0 op stands.is)
 
-  pub to_place : (k : ℕ) (p : Operation) → k < length order → slice_get operations (slice_index order k) ≡ Some p → (op : Op) × StandsAt plan k op × (operation_in plan.store.nodes op ≡ p)
+  pub to_place : (k : ℕ) (p : Operation) → k < length (compiled_order plan) → slice_get (compiled_operations plan) (slice_index (compiled_order plan) k) ≡ Some p → (op : Op) × StandsAt plan k op × (operation_in plan.store.nodes op ≡ p)
   to_place k p lt at =
-      let id = id_at plan.order k (slice_index order k) (slice_get-get_or order k 0 lt) in
-      let made = made_of plan.store.nodes plan.ops (slice_index order k) p at in
+      let id = id_at plan.order k (slice_index (compiled_order plan) k) (slice_get-get_or (compiled_order plan) k 0 lt) in
+      let made = made_of plan.store.nodes plan.ops (slice_index (compiled_order plan) k) p at in
       (made.0, record { number = id.0; ordered = id.1; is = ap (slice_get plan.ops) id.2 ∙ made.1 }, made.2)
 
   -- one operation stands at a place

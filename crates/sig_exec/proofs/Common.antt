@@ -46,7 +46,6 @@ pub use Rattle.sig_model.specs.Actors.{truths_of}
 pub use Rattle.sig_model.specs.Operating.{computed, next_of}
 pub use Rattle.sig_model.specs.Results.{divides_by_zero, result_of, truth_value}
 pub use Rattle.sig_values.specs.Answers.{answered}
-pub use Rattle.sig_values.proofs.LastOutputs.{longest_from_more, longest_from_within}
 pub use Rattle.sig_flow.specs.OutputLines.{longest_line, longest_lines}
 pub use Rattle.sig_base.specs.declared.signal.Signal.{Signal}
 pub use Rattle.std.proofs.Common.{get_or}
@@ -62,7 +61,7 @@ pub use Rattle.sig_exec.specs.declared.functions.Functions.{Functions}
 pub use Rattle.sig_exec.specs.declared.lowered.ImageInstructions.{ImageInstructions}
 pub use Rattle.sig_exec.specs.declared.machine.ImageMachine.{ImageMachine}
 pub use Rattle.sig_exec.specs.inner.Functions.{AreFunctions, AreFunctionsOfFirst, IsChosen}
-pub use Rattle.sig_exec.specs.inner.Instants.{AreOutputs, EndsAt, HandlesEach, HandlesFirst, IsAmid, IsOutput, line_of_seen, reference}
+pub use Rattle.sig_exec.specs.inner.Instants.{AreOutputs, EndsAt, HandlesEach, HandlesFirst, IsAmid, IsOutput, reference}
 pub use Rattle.sig_exec.specs.inner.Lowerings.{AreFor, AreGuardsOf, BeginWith, Grows, IsCellOf, IsConstant, IsFor, IsFunctionWork, IsWorkOf, Lowers, bound_of, inits_of, target_of}
-pub use Rattle.sig_exec.specs.inner.Machines.{AreCellsOf, HaveSignals, IsMachineOf, cells_in, left_of, registers_of, registers_on, seen_on, shown, shown_all, state_of, state_on}
+pub use Rattle.sig_exec.specs.inner.Machines.{AreCellsOf, HaveSignals, IsMachineOf, cells_in, left_of, registers_of, registers_on, seen_in, seen_on, shown, shown_all, state_of, state_on}
 pub use Rattle.sig_exec.specs.inner.Outcomes.{cause_of}

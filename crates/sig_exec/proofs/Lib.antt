@@ -9,8 +9,7 @@ pub mod RunOfSoundImage
 pub mod CellsLeft
 pub mod InstructionWorks
 pub mod InOrder
-pub mod Parts
-pub mod LastOutputs
+pub mod OutputTexts
 pub mod RunByInstants
 pub mod Openings
 pub mod MoreConstants
@@ -33,7 +32,7 @@ pub use LoweredImage.*
 pub use InstructionWorks.*
 pub use MoreConstants.*
 pub use Openings.*
-pub use LastOutputs.*
+pub use OutputTexts.*
 pub use Places.*
 pub use RunByInstants.*
 pub use RunOfSoundImage.*

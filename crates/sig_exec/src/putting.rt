@@ -1,16 +1,17 @@
 //! The text of an instant.
 
-ghost use Rattle.std.specs.Prelude.{◌≡◌, ◌≤◌, ◌<◌, ◌+◌, ◌++◌};
-ghost use Rattle.sig_exec.specs.Prelude.{ℕ, IfOk, OnErr, OnOk, Rose, TookPrefix, instant_lines, length, longest_line, Some, slice_get, ImageSignal, Signal};
-ghost use Rattle.sig_exec.specs.inner.Instants.{AreOutputs, IsOutput, line_of_seen};
-ghost use Rattle.sig_exec.specs.inner.Machines.{HasCells, registers_of};
+ghost use Rattle.std.specs.Prelude.{◌≡◌, ◌≤◌, ◌<◌, ◌+◌, ◌^◌};
+ghost use Rattle.sig_exec.specs.Prelude.{ℕ, IfOk, OnErr, OnOk, Rose, TookPrefix, instant_lines, length, Some, slice_get, ImageSignal, Signal};
+ghost use Rattle.sig_exec.specs.inner.Instants.{AreOutputs, IsOutput};
+ghost use Rattle.sig_exec.specs.inner.Machines.{HasCells, registers_of, seen_in};
 
 use crate::images::{images_are_right, inputs_of, outputs_of, signal_at};
 use crate::machine::ImageMachine;
 use sig_base::{Signal, Span, Text};
 use sig_file::{Image, ImageSignal};
 use sig_flow::OutputLines;
-use sig_text::{Sink, WriteFault, put_all};
+use sig_text::{Sink, WriteFault};
+use sig_values::put_instant;
 use std::alloc::{AllocError, Global};
 
 /// The outputs of an image, in their order, as signals of a program, with room for the lines of an instant.
@@ -46,40 +47,15 @@ impl Outputs {
         ensures failed { OnErr result (Rose (S.faults sink.old) (S.faults sink.new)) }
         ensures faults_stay { S.faults sink.old ≤ S.faults sink.new }
     {
-        self.make(machine, image);
-        put_all(sink, self.lines.as_bytes())
-    }
-
-    /// Makes the lines those of the outputs that were written, from the last one to the first.
-    #[inline(never)]
-    fn make(&mut self, machine: &ImageMachine, image: &Image)
-        requires outputs { AreOutputs image.now self.old }
-        requires cells { HasCells image.now machine.now }
-        ensures outputs { AreOutputs image.now self.new }
-        ensures text { self.new.lines.text ≡ instant_lines image.now (registers_of image.now machine.now) }
-    {
         images_are_right(image);
-        let inputs = inputs_of(image);
-        let outputs = outputs_of(image);
-        self.lines.clear();
-        for behind in 0..outputs {
-            let output = outputs - 1 - behind;
-            let seen = machine.seen(inputs + output);
-            put_seen(&self.signals[output as usize], seen, &mut self.lines);
-        }
-    }
-}
-
-/// Puts the line of a signal in front, where it was written.
-#[inline(always)]
-fn put_seen(signal: &Signal, seen: Option<i64>, lines: &mut OutputLines)
-    requires { length lines.old.text + longest_line signal.now ≤ lines.old.size }
-    ensures size { lines.new.size ≡ lines.old.size }
-    ensures text { lines.new.text ≡ line_of_seen signal.now seen ++ lines.old.text }
-    ensures longest { length lines.new.text ≤ length lines.old.text + longest_line signal.now }
-{
-    if let Some(value) = seen {
-        lines.put_in_front(signal, value);
+        let first = inputs_of(image);
+        let seen = |place: usize| -> Option<i64>
+            requires number { first + place < 2 ^ 32 }
+            requires cells { first + place < length machine.now.cells.items }
+            requires stamps { first + place < length machine.now.stamps.items }
+            ensures { result ≡ seen_in machine.entry.now (first + place) }
+        { machine.seen(first + place as u32) };
+        put_instant(self.signals.as_slice(), seen, &mut self.lines, sink)
     }
 }
 

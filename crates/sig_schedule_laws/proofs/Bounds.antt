@@ -1,5 +1,5 @@
 -- A list of events that each change the state is bounded: each moves one actor on, or ends one.
-use Rattle.sig_schedule_laws.proofs.Common.{◌≡◌, ◌<◌, ◌≤◌, ◌-◌, ◌+◌, ◌*◌, ◌++◌, ◌⊎◌, inl, inr, ℕ, zero, suc, ℤ, Bool, true, false, cond, List, [], ◌∷◌, length, set, refl, ap, sym, subst, ◌∙◌, arith, None, Option, Some, fold, nat_lt, slice_get, mul-add, suc-mul, ltb-false, length-replicate, length-set, mul-le, Actor, code_of, ended_at, guard_holds, moved_on, next_place, opening_actor, Core, Given, IsEnabled, acted, after, items_on, looked, opening, stepped, take_first, turned, with_actor, with_items, word_before, Faults, Gives, Outcome, operated, outcome, AtLimit, Commits, Fails, Goes, Puts, Stopped, Takes, Turn, carried, received, turn, turn_at, turn_by, turn_of_op, turn_with, Event, Act, Look, CodeView, IsAccepted, PlanView, Step, StepKind, Do, Send, Receive, Report, Collect, Commit, Op, one_of, AllChange, all_gone, gone_by, steps_in, slice_get_within, cases_eq, repeated}
+use Rattle.sig_schedule_laws.proofs.Common.{◌≡◌, ◌<◌, ◌≤◌, ◌-◌, ◌+◌, ◌*◌, ◌++◌, ◌⊎◌, inl, inr, ℕ, zero, suc, ℤ, Bool, true, false, cond, List, [], ◌∷◌, length, set, refl, ap, sym, subst, ◌∙◌, arith, None, Option, Some, fold, nat_lt, slice_get, mul-add, suc-mul, ltb-false, length-replicate, length-set, mul-le, Actor, code_of, ended_at, guard_holds, moved_on, next_place, opening_actor, Core, Given, IsEnabled, acted, after, items_on, looked, opening, stepped, take_first, turned, with_actor, with_items, word_before, Faults, Gives, Outcome, operated, outcome, AtLimit, Commits, Fails, Goes, Puts, Stopped, Takes, Turn, carried, received, turn, turn_at, turn_by, turn_of_op, turn_with, Event, Act, Look, CodeView, IsAccepted, Step, StepKind, Do, Send, Receive, Report, Collect, Commit, Op, one_of, AllChange, all_gone, gone_by, steps_in, slice_get_within, cases_eq, repeated}
 use Rattle.sig_schedule_laws.proofs.Coded.{actor_coded, code_is}
 use Rattle.sig_schedule_laws.proofs.Lists.{put_elsewhere, put_here, set_get}
 use Rattle.sig_schedule_laws.proofs.Moved.{moved_cases}
@@ -117,11 +117,8 @@ total_within limit (code ∷ codes) (a ∷ xs) each =
 -- ---- what an event does
 
 module _ (given : Given) where
-  abbrev plan : PlanView
-  plan = given.plan
-
   abbrev count : ℕ → ℕ
-  count k = length (code_of plan k).steps
+  count k = length (code_of given.plan k).steps
 
   abbrev Moved : ℕ → Actor → Actor → Type 0
   Moved k a next = IsMoved given.limit (count k) a next
@@ -140,36 +137,36 @@ module _ (given : Given) where
     moved : (b : Actor) → b.instant ≡ a.instant → b.step ≡ a.step → b.ended ≡ a.ended → Moved k a (moved_on (count k) b)
     moved b same_instant same_step same_end = record { runs = runs; within = within; b = b; is = refl; same_instant = same_instant; same_step = same_step; goes = same_end ∙ runs }
 
-    op_turn : (op : Op) (r : Outcome) → IsTurnOf k a (turn_with plan (code_of plan k) a op r)
-    op_turn op (Gives v) = moved (operated plan.kernel op v a) refl refl refl
+    op_turn : (op : Op) (r : Outcome) → IsTurnOf k a (turn_with given.plan (code_of given.plan k) a op r)
+    op_turn op (Gives v) = moved (operated given.plan.kernel op v a) refl refl refl
     op_turn op (Faults cause) = runs
 
-    some_op : (found : Option Op) → IsTurnOf k a (turn_of_op plan given.flows (code_of plan k) a found)
+    some_op : (found : Option Op) → IsTurnOf k a (turn_of_op given.plan given.flows (code_of given.plan k) a found)
     some_op None = tt
-    some_op (Some op) = op_turn op (outcome plan.kernel given.flows a op)
+    some_op (Some op) = op_turn op (outcome given.plan.kernel given.flows a op)
 
-    kind_turn : (kind : StepKind) → IsTurnOf k a (turn_by plan given.flows (code_of plan k) a kind)
-    kind_turn (Do o) = some_op (slice_get plan.ops o.0)
+    kind_turn : (kind : StepKind) → IsTurnOf k a (turn_by given.plan given.flows (code_of given.plan k) a kind)
+    kind_turn (Do o) = some_op (slice_get given.plan.ops o.0)
     kind_turn (Send j) = moved a refl refl refl
     kind_turn (Report j) = moved a refl refl refl
-    kind_turn (Receive j) = λ item. moved (received (carried plan.links j) item a) refl refl refl
+    kind_turn (Receive j) = λ item. moved (received (carried given.plan.links j) item a) refl refl refl
     kind_turn (Collect j) = λ item. moved a refl refl refl
     kind_turn Commit = moved a refl refl refl
 
-    step_turn : (step : Option Step) → IsTurnOf k a (turn_at plan given.flows (code_of plan k) a step)
+    step_turn : (step : Option Step) → IsTurnOf k a (turn_at given.plan given.flows (code_of given.plan k) a step)
     step_turn None = tt
-    step_turn (Some step) = by (guard_holds plan (code_of plan k) a.registers step) where
-      by : (b : Bool) → IsTurnOf k a (cond b (turn_by plan given.flows (code_of plan k) a step.kind) (Goes (moved_on (count k) a)))
+    step_turn (Some step) = by (guard_holds given.plan (code_of given.plan k) a.registers step) where
+      by : (b : Bool) → IsTurnOf k a (cond b (turn_by given.plan given.flows (code_of given.plan k) a step.kind) (Goes (moved_on (count k) a)))
       by true = kind_turn step.kind
       by false = moved a refl refl refl
 
-  turn_is : (k : ℕ) (a : Actor) → IsTurnOf k a (turn plan given.flows given.limit k a)
+  turn_is : (k : ℕ) (a : Actor) → IsTurnOf k a (turn given.plan given.flows given.limit k a)
   turn_is k a = by a.ended refl where
-    going : a.ended ≡ false → (b : Bool) → nat_lt given.limit a.instant ≡ b → IsTurnOf k a (cond b AtLimit (turn_at plan given.flows (code_of plan k) a (slice_get (code_of plan k).steps a.step)))
+    going : a.ended ≡ false → (b : Bool) → nat_lt given.limit a.instant ≡ b → IsTurnOf k a (cond b AtLimit (turn_at given.plan given.flows (code_of given.plan k) a (slice_get (code_of given.plan k).steps a.step)))
     going runs true over = runs
-    going runs false within = step_turn k a runs (ltb-false given.limit a.instant within) (slice_get (code_of plan k).steps a.step)
+    going runs false within = step_turn k a runs (ltb-false given.limit a.instant within) (slice_get (code_of given.plan k).steps a.step)
 
-    by : (b : Bool) → a.ended ≡ b → IsTurnOf k a (cond b Stopped (cond (nat_lt given.limit a.instant) AtLimit (turn_at plan given.flows (code_of plan k) a (slice_get (code_of plan k).steps a.step))))
+    by : (b : Bool) → a.ended ≡ b → IsTurnOf k a (cond b Stopped (cond (nat_lt given.limit a.instant) AtLimit (turn_at given.plan given.flows (code_of given.plan k) a (slice_get (code_of given.plan k).steps a.step))))
     by true ended = tt
     by false runs = going runs (nat_lt given.limit a.instant) refl
 
@@ -204,8 +201,8 @@ module _ (given : Given) where
       by [] = inr refl
       by (item ∷ items) = inl (move (with_items j items (with_actor k (next item) core)) (next item) refl (inr (is item)))
 
-    looked_move : MovesOr (looked plan k core (Some a))
-    looked_move = by a.ended refl (word_before core.word (next_place (code_of plan k) a)) where
+    looked_move : MovesOr (looked given.plan k core (Some a))
+    looked_move = by a.ended refl (word_before core.word (next_place (code_of given.plan k) a)) where
       by : (b : Bool) → a.ended ≡ b → (less : Bool) → MovesOr (cond b core (cond less (with_actor k (ended_at a) core) core))
       by true ended less = inr refl
       by false runs true = inl (move (with_actor k (ended_at a) core) (ended_at a) refl (inl (refl, runs)))
@@ -215,9 +212,9 @@ module _ (given : Given) where
   event_move core (Act k) = by (slice_get core.actors k) refl where
     by : (o : Option Actor) → slice_get core.actors k ≡ o → IsMove core (acted given k core o) ⊎ (acted given k core o ≡ core)
     by None at = inr refl
-    by (Some a) at = turned_move core k a at (turn plan given.flows given.limit k a) (turn_is k a)
+    by (Some a) at = turned_move core k a at (turn given.plan given.flows given.limit k a) (turn_is k a)
   event_move core (Look k) = by (slice_get core.actors k) refl where
-    by : (o : Option Actor) → slice_get core.actors k ≡ o → IsMove core (looked plan k core o) ⊎ (looked plan k core o ≡ core)
+    by : (o : Option Actor) → slice_get core.actors k ≡ o → IsMove core (looked given.plan k core o) ⊎ (looked given.plan k core o ≡ core)
     by None at = inr refl
     by (Some a) at = looked_move core k a at
 
@@ -227,7 +224,7 @@ module _ (given : Given) where
   -- ---- lists of events
 
   record AreKept (core : Core) : Type 0 where
-    actors : length core.actors ≡ length plan.codes
+    actors : length core.actors ≡ length given.plan.codes
     each : (k : ℕ) (a : Actor) → slice_get core.actors k ≡ Some a → IsKept given.limit (count k) a
 
   kept_next : (core after : Core) → AreKept core → (m : IsMove core after) → IsKept given.limit (count m.k) m.next × (gone_by (count m.k) m.next ≡ gone_by (count m.k) m.actor + 1)
@@ -237,7 +234,7 @@ module _ (given : Given) where
     | inr moves ↦ moved_kept given.limit (count m.k) m.actor m.next (kept.each m.k m.actor m.at) moves
   ]
 
-  move_kept : (core after : Core) → AreKept core → IsMove core after → AreKept after × (all_gone plan.codes after.actors ≡ all_gone plan.codes core.actors + 1)
+  move_kept : (core after : Core) → AreKept core → IsMove core after → AreKept after × (all_gone given.plan.codes after.actors ≡ all_gone given.plan.codes core.actors + 1)
   move_kept core after kept m =
       let next = kept_next core after kept m in
       let actors = kept.actors in (
@@ -250,15 +247,15 @@ module _ (given : Given) where
                 | inr apart ↦ subst (IsKept given.limit (count k)) (sym (put_elsewhere m.k m.next k s.0 apart)) (kept.each k s.0 s.1)
               ]);
         },
-        ap (all_gone plan.codes) m.is ∙ total_set plan.codes core.actors m.k (code_of plan m.k) m.actor m.next (actor_coded plan m.k (omega (arith, slice_get_within core.actors m.k m.actor m.at, actors))) m.at next.1,
+        ap (all_gone given.plan.codes) m.is ∙ total_set given.plan.codes core.actors m.k (code_of given.plan m.k) m.actor m.next (actor_coded given.plan m.k (omega (arith, slice_get_within core.actors m.k m.actor m.at, actors))) m.at next.1,
       )
 
-  within : (core : Core) → AreKept core → all_gone plan.codes core.actors ≤ given.limit * steps_in plan.codes + length plan.codes
-  within core kept = total_within given.limit plan.codes core.actors (λ k code a at_c at_a.
-      let same = code_is plan k code at_c in
+  within : (core : Core) → AreKept core → all_gone given.plan.codes core.actors ≤ given.limit * steps_in given.plan.codes + length given.plan.codes
+  within core kept = total_within given.limit given.plan.codes core.actors (λ k code a at_c at_a.
+      let same = code_is given.plan k code at_c in
       subst (λ (z : CodeView). gone_by (length z.steps) a ≤ given.limit * length z.steps + 1) same (kept_weight given.limit (count k) a (kept.each k a at_a)))
 
-  bounded_from : (events : List Event) (core : Core) → AreKept core → AllChange given core events → all_gone plan.codes core.actors + length events ≤ given.limit * steps_in plan.codes + length plan.codes
+  bounded_from : (events : List Event) (core : Core) → AreKept core → AllChange given core events → all_gone given.plan.codes core.actors + length events ≤ given.limit * steps_in given.plan.codes + length given.plan.codes
   bounded_from [] core kept all = omega (arith, within core kept)
   bounded_from (event ∷ events) core kept all =
       let next = move_kept core (stepped given core event) kept (changing_move core event all.0) in
@@ -271,35 +268,35 @@ module _ (given : Given) where
     | inr same ↦ subst AreKept (sym same) kept
   ])
 
-  module _ (accepted : IsAccepted plan) where
-    opening_kept : AreKept (opening plan)
+  module _ (accepted : IsAccepted given.plan) where
+    opening_kept : AreKept (opening given.plan)
     opening_kept = record {
-      actors = length-replicate (length plan.codes) (opening_actor plan.kernel);
+      actors = length-replicate (length given.plan.codes) (opening_actor given.plan.kernel);
       each = λ k a at.
-          let there = repeated (length plan.codes) k (opening_actor plan.kernel) a at in
+          let there = repeated (length given.plan.codes) k (opening_actor given.plan.kernel) a at in
           subst (IsKept given.limit (count k)) (sym there.1) (record {
             from = omega arith;
-            step = (is_runnable plan accepted).begins k there.0;
+            step = (is_runnable given.plan accepted).begins k there.0;
             within = elim (cases_eq given.limit 0) [ inl none ↦ inr (omega (arith, none), refl) | inr some ↦ inl (omega (arith, some)) ];
           });
     }
 
     after_kept : (events : List Event) → AreKept (after given events)
-    after_kept events = from_kept events (opening plan) opening_kept
+    after_kept events = from_kept events (opening given.plan) opening_kept
 
-    pub bounded_events : (events : List Event) → AllChange given (opening plan) events → length events ≤ given.limit * steps_in plan.codes + length plan.codes
-    bounded_events events all = omega (arith, bounded_from events (opening plan) opening_kept all)
+    pub bounded_events : (events : List Event) → AllChange given (opening given.plan) events → length events ≤ given.limit * steps_in given.plan.codes + length given.plan.codes
+    bounded_events events all = omega (arith, bounded_from events (opening given.plan) opening_kept all)
 
     pub changes_go_on : (events : List Event) (event : Event) → IsEnabled given (after given events) event
-        → all_gone plan.codes (stepped given (after given events) event).actors ≡ all_gone plan.codes (after given events).actors + 1
+        → all_gone given.plan.codes (stepped given (after given events) event).actors ≡ all_gone given.plan.codes (after given events).actors + 1
     changes_go_on events event changes = (move_kept (after given events) (stepped given (after given events) event) (after_kept events) (changing_move (after given events) event changes)).1
 
-    pub all_within : (events : List Event) → all_gone plan.codes (after given events).actors ≤ given.limit * steps_in plan.codes + length plan.codes
+    pub all_within : (events : List Event) → all_gone given.plan.codes (after given events).actors ≤ given.limit * steps_in given.plan.codes + length given.plan.codes
     all_within events = within (after given events) (after_kept events)
 
     -- from a state with the actors of one that events reach
     pub bounded_behind : (before : List Event) (core : Core) → core.actors ≡ (after given before).actors → (events : List Event) → AllChange given core events
-        → length events ≤ given.limit * steps_in plan.codes + length plan.codes
+        → length events ≤ given.limit * steps_in given.plan.codes + length given.plan.codes
     bounded_behind before core same events all =
         let there = after_kept before in
         let kept : AreKept core = record {

@@ -1,26 +1,20 @@
 -- The collector commits at its last step, and nobody else commits.
-use Rattle.sig_schedule_laws.proofs.Common.{◌≡◌, ◌<◌, ◌≤◌, ◌+◌, ◌*◌, ◌⊎◌, inl, inr, ℕ, zero, suc, true, List, ◌∷◌, length, map, refl, ap, sym, ◌∙◌, arith, Some, slice_get, range_with_len, at_most_or, Registers, guard_holds, truths_of, CodeView, Instruction, unguarded, IsFor, does, sends, receives, reports, collects, commits, Operation, operations_in, IsAccepted, PlanView, numbers_of, Step, Do, Send, Receive, Report, Collect, Commit, positions_rise, slice_get_within, some_at}
+use Rattle.sig_schedule_laws.proofs.Common.{compiled_operations, compiled_order, ◌≡◌, ◌<◌, ◌≤◌, ◌+◌, ◌*◌, ◌⊎◌, inl, inr, ℕ, zero, suc, true, List, ◌∷◌, length, map, refl, ap, sym, ◌∙◌, arith, Some, slice_get, range_with_len, at_most_or, Registers, guard_holds, truths_of, CodeView, Instruction, unguarded, IsFor, does, sends, receives, reports, collects, commits, IsAccepted, PlanView, Step, Do, Send, Receive, Report, Collect, Commit, positions_rise, slice_get_within, some_at}
 use Rattle.sig_schedule_laws.proofs.Beginnings.{commits_there}
 use Rattle.sig_schedule_laws.proofs.Steps.{before_by_position, instruction_step, same_place, step_does}
 
 module _ (plan : PlanView) (accepted : IsAccepted plan) where
-  abbrev operations : List Operation
-  operations = operations_in plan.store.nodes plan.ops
-
-  abbrev order : List ℕ
-  order = numbers_of plan.order
-
   abbrev IsKnown : ℕ → Instruction → Type 0
-  IsKnown k i = IsFor operations order accepted.parts.links accepted.parts.clusters k i
+  IsKnown k i = IsFor (compiled_operations plan) (compiled_order plan) accepted.parts.links accepted.parts.clusters k i
 
   abbrev commit : Instruction
-  commit = unguarded Commit (2 * length operations + 1)
+  commit = unguarded Commit (2 * length (compiled_operations plan) + 1)
 
   -- an instruction commits, for the collector, or is at an earlier position
-  commit_or_before : (k : ℕ) (i : Instruction) → IsKnown k i → ((i ≡ commit) × (k ≡ accepted.parts.clusters)) ⊎ (i.position < 2 * length operations + 1)
-  commit_or_before k _ (does j number p stands own) = let lt = slice_get_within order j number stands.place in let full = accepted.order.all in inr (omega (arith, lt, full))
-  commit_or_before k _ (sends j number link p stands own from) = let lt = slice_get_within order j number stands.place in let full = accepted.order.all in inr (omega (arith, lt, full))
-  commit_or_before k _ (receives j number link p stands other from reader) = let lt = slice_get_within order j number stands.place in let full = accepted.order.all in inr (omega (arith, lt, full))
+  commit_or_before : (k : ℕ) (i : Instruction) → IsKnown k i → ((i ≡ commit) × (k ≡ accepted.parts.clusters)) ⊎ (i.position < 2 * length (compiled_operations plan) + 1)
+  commit_or_before k _ (does j number p stands own) = let lt = slice_get_within (compiled_order plan) j number stands.place in let full = accepted.order.all in inr (omega (arith, lt, full))
+  commit_or_before k _ (sends j number link p stands own from) = let lt = slice_get_within (compiled_order plan) j number stands.place in let full = accepted.order.all in inr (omega (arith, lt, full))
+  commit_or_before k _ (receives j number link p stands other from reader) = let lt = slice_get_within (compiled_order plan) j number stands.place in let full = accepted.order.all in inr (omega (arith, lt, full))
   commit_or_before k _ (reports link info other at none writer) = inr (omega arith)
   commit_or_before k _ (collects link info own at none) = inr (omega arith)
   commit_or_before k _ (commits own) = inl (refl, own)
@@ -48,8 +42,8 @@ module _ (plan : PlanView) (accepted : IsAccepted plan) where
     pub another_follows : k ≡ accepted.parts.clusters → (step.kind ≡ Commit → ⊥) → s + 1 < length code.steps
     another_follows own other =
         let d = step_does plan accepted k code coded s step at in
-        let there = instruction_step plan accepted k code coded commit (commits_there operations order accepted.parts k own) in
-        let position : there.3.i.position ≡ 2 * length operations + 1 = ap (λ (i : Instruction). i.position) there.4 in
+        let there = instruction_step plan accepted k code coded commit (commits_there (compiled_operations plan) (compiled_order plan) accepted.parts k own) in
+        let position : there.3.i.position ≡ 2 * length (compiled_operations plan) + 1 = ap (λ (i : Instruction). i.position) there.4 in
         let before : s < there.0 = elim (commit_or_before k d.i d.known) [
           | inl last ↦ absurd (other (d.kind ∙ ap (λ (i : Instruction). i.kind) last.0))
           | inr lt ↦ before_by_position plan accepted k code coded s there.0 step there.1 d there.3 (omega (arith, lt, position))
@@ -69,8 +63,8 @@ module _ (plan : PlanView) (accepted : IsAccepted plan) where
           let is = (commit_known k d.i d.known (sym d.kind ∙ kind)).0 in
           let other = some_at code.steps (s + 1) lt in
           let e = step_does plan accepted k code coded (s + 1) other.0 other.1 in
-          let position : d.i.position ≡ 2 * length operations + 1 = ap (λ (i : Instruction). i.position) is in
-          let later = positions_rise operations order accepted.parts k accepted.order.all s (s + 1) d.i e.i (omega arith) d.at e.at in
+          let position : d.i.position ≡ 2 * length (compiled_operations plan) + 1 = ap (λ (i : Instruction). i.position) is in
+          let later = positions_rise (compiled_operations plan) (compiled_order plan) accepted.parts k accepted.order.all s (s + 1) d.i e.i (omega arith) d.at e.at in
           elim (commit_or_before k e.i e.known) [
             | inl last ↦ let same = same_place plan accepted k code coded s (s + 1) step other.0 d e (is ∙ sym last.0) in absurd (omega (arith, same))
             | inr before ↦ absurd (omega (arith, before, later, position))

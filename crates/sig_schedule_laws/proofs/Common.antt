@@ -46,3 +46,4 @@ pub use Rattle.sig_doing_laws.proofs.ReferenceInstant.{delayed_below, one_storin
 pub use Rattle.sig_schedule_laws.specs.Changes.{AllChange, all_gone, gone_by, steps_in}
 pub use Rattle.sig_schedule_laws.specs.Endings.{HasEnd, IsNotBefore}
 pub use Rattle.sig_schedule_laws.specs.Soundness.{IsPast, IsSound, IsSoundActor}
+pub use Rattle.sig_doing_laws.proofs.CompiledLists.{compiled_operations, compiled_order}

@@ -1,5 +1,5 @@
 -- What the two ends of a link send and take at an instant.
-use Rattle.sig_schedule_laws.proofs.Common.{◌≡◌, ◌+◌, ◌*◌, ◌⊎◌, inl, inr, ℕ, ℤ, pos, Bool, true, false, cond, List, [], ◌∷◌, length, refl, ap, sym, subst, ◌∙◌, Contains, None, Option, Some, is_some, option_to_list, slice_get, unwrap_or, Instant, Seen, seen_at, SigId, Memory, IsNext, guard_holds, truths_of, Yield, yielded_in, item_of, CodeView, Instruction, instructions_of, under, unguarded, IsFor, StandsAt, Operation, operations_in, Writes, IsAccepted, PlanView, numbers_of, Step, StepKind, LinkInfo, plan_operations, carrying_ends, slice_get_within}
+use Rattle.sig_schedule_laws.proofs.Common.{compiled_operations, compiled_order, ◌≡◌, ◌+◌, ◌*◌, ◌⊎◌, inl, inr, ℕ, ℤ, pos, Bool, true, false, cond, List, [], ◌∷◌, length, refl, ap, sym, subst, ◌∙◌, Contains, None, Option, Some, is_some, option_to_list, slice_get, unwrap_or, Instant, Seen, seen_at, SigId, Memory, IsNext, guard_holds, truths_of, Yield, yielded_in, item_of, CodeView, Instruction, instructions_of, under, unguarded, IsFor, StandsAt, Operation, Writes, IsAccepted, PlanView, Step, StepKind, LinkInfo, plan_operations, carrying_ends, slice_get_within}
 use Rattle.sig_schedule_laws.proofs.Done.{done_once, done_there, stands_of, there_done}
 use Rattle.sig_schedule_laws.proofs.Lists.{none_chosen, one_chosen}
 use Rattle.sig_schedule_laws.proofs.Steps.{DoesStep, instruction_step, places_once, same_place, step_does}
@@ -19,17 +19,11 @@ present_value : (s : Seen) (v : ℤ) → s ≡ Some v → unwrap_or s (pos 0) �
 present_value s v is = ap (λ (o : Option ℤ). unwrap_or o (pos 0)) is
 
 module _ (plan : PlanView) (accepted : IsAccepted plan) (link : ℕ) (info : LinkInfo) (at : slice_get plan.links link ≡ Some info) where
-  abbrev operations : List Operation
-  operations = operations_in plan.store.nodes plan.ops
-
-  abbrev order : List ℕ
-  order = numbers_of plan.order
-
   abbrev all : ℕ → List Instruction
-  all k = instructions_of operations order accepted.parts k
+  all k = instructions_of (compiled_operations plan) (compiled_order plan) accepted.parts k
 
   abbrev IsKnown : ℕ → Instruction → Type 0
-  IsKnown k i = IsFor operations order accepted.parts.links accepted.parts.clusters k i
+  IsKnown k i = IsFor (compiled_operations plan) (compiled_order plan) accepted.parts.links accepted.parts.clusters k i
 
   at_parts : slice_get accepted.parts.links link ≡ Some info
   at_parts = subst (λ (ls : List LinkInfo). slice_get ls link ≡ Some info) (sym accepted.links) at
@@ -40,7 +34,7 @@ module _ (plan : PlanView) (accepted : IsAccepted plan) (link : ℕ) (info : Lin
     pub number : ℕ
     pub p : Operation
     pub x : SigId
-    pub stands : StandsAt operations order j number p
+    pub stands : StandsAt (compiled_operations plan) (compiled_order plan) j number p
     pub writes : Writes p x
     pub carries : info.signal ≡ Some x
     pub is : i ≡ under p K (2 * j + 1)
@@ -51,9 +45,9 @@ module _ (plan : PlanView) (accepted : IsAccepted plan) (link : ℕ) (info : Lin
     pub marks : (instant : Instant) → yield instant M ≡ Some (pos 0)
     pub only : (instant : Instant) (kind : StepKind) (w : ℤ) → yield instant kind ≡ Some w → (kind ≡ K) ⊎ (kind ≡ M)
     pub items : (i : Instruction) → IsKnown k i → i.kind ≡ K → IsItem K i
-    pub reports : (i : Instruction) → IsKnown k i → i.kind ≡ M → (info.signal ≡ None) × (i ≡ unguarded M (2 * length operations))
-    pub has_item : (j number : ℕ) (p : Operation) (x : SigId) → StandsAt operations order j number p → Writes p x → info.signal ≡ Some x → Contains (all k) (under p K (2 * j + 1))
-    pub has_report : info.signal ≡ None → Contains (all k) (unguarded M (2 * length operations))
+    pub reports : (i : Instruction) → IsKnown k i → i.kind ≡ M → (info.signal ≡ None) × (i ≡ unguarded M (2 * length (compiled_operations plan)))
+    pub has_item : (j number : ℕ) (p : Operation) (x : SigId) → StandsAt (compiled_operations plan) (compiled_order plan) j number p → Writes p x → info.signal ≡ Some x → Contains (all k) (under p K (2 * j + 1))
+    pub has_report : info.signal ≡ None → Contains (all k) (unguarded M (2 * length (compiled_operations plan)))
 
   module _ (memory : Memory) (next : ℕ → ℤ) (instant : Instant) (is : IsNext plan.kernel memory next instant)
       (k : ℕ) (code : CodeView) (coded : slice_get plan.codes k ≡ Some code) (yield : Yield) (K M : StepKind) (end : IsLinkEnd k yield K M) where
@@ -77,7 +71,7 @@ module _ (plan : PlanView) (accepted : IsAccepted plan) (link : ℕ) (info : Lin
 
     reported : info.signal ≡ None → yielded_in plan code yield instant code.steps ≡ pos 0 ∷ []
     reported none =
-        let there = instruction_step plan accepted k code coded (unguarded M (2 * length operations)) (end.has_report none) in
+        let there = instruction_step plan accepted k code coded (unguarded M (2 * length (compiled_operations plan))) (end.has_report none) in
         let kind : there.1.kind ≡ M = there.3.kind ∙ ap (λ (i : Instruction). i.kind) there.4 in
         let holds : guard_holds plan code (seen_at instant) there.1 ≡ true = there.3.guard (seen_at instant) ∙ ap (λ (i : Instruction). i.guard own) there.4 in
         one_chosen chosen code.steps there.0 there.1 (pos 0) there.2 (chosen_some there.1 (pos 0) holds (ap (yield instant) kind ∙ end.marks instant)) (λ m b at_m apart.
@@ -108,7 +102,7 @@ module _ (plan : PlanView) (accepted : IsAccepted plan) (link : ℕ) (info : Lin
 
       present : (v : ℤ) → seen_at instant x.0 ≡ Some v → yielded_in plan code yield instant code.steps ≡ v ∷ []
       present v some =
-          let ends = carrying_ends plan.kernel accepted.valid plan.clocks.conditions operations (plan_operations plan accepted) accepted.parts accepted.split link info x at_parts carries in
+          let ends = carrying_ends plan.kernel accepted.valid plan.clocks.conditions (compiled_operations plan) (plan_operations plan accepted) accepted.parts accepted.split link info x at_parts carries in
           let w = there_done plan accepted memory next instant is x (slice_get_within plan.kernel.signals x.0 ends.owner ends.owned) (ap (λ (s : Seen). is_some s) some) in
           let stands = stands_of plan accepted w.0 w.1 w.2 in
           let there = instruction_step plan accepted k code coded (under w.1 K (2 * stands.0 + 1)) (end.has_item stands.0 w.0 w.1 x stands.1 w.3 carries) in
@@ -123,7 +117,7 @@ module _ (plan : PlanView) (accepted : IsAccepted plan) (link : ℕ) (info : Lin
                 let found = end.items d.i d.known (sym d.kind ∙ item) in
                 let numbers : found.number ≡ w.0 = done_once plan accepted memory next instant is found.number w.0 found.p w.1 x found.stands.is w.2
                 (found.writes ∙ ap Some (same_signal K d.i found)) w.3 (item_done m b d g found) w.4 in
-                let places = places_once plan accepted found.j stands.0 w.0 found.p w.1 (subst (λ n. StandsAt operations order found.j n found.p) numbers found.stands) stands.1 in
+                let places = places_once plan accepted found.j stands.0 w.0 found.p w.1 (subst (λ n. StandsAt (compiled_operations plan) (compiled_order plan) found.j n found.p) numbers found.stands) stands.1 in
                 let same : under found.p K (2 * found.j + 1) ≡ under w.1 K (2 * stands.0 + 1) = (λ t. under (places.1 t) K (2 * places.0 t + 1)) in
                 apart (same_place plan accepted k code coded m there.0 b there.1 d there.3 (found.is ∙ same ∙ sym there.4))
             | inr mark ↦ clash x carries (end.reports d.i d.known (sym d.kind ∙ mark)).0

@@ -1,5 +1,5 @@
 -- An operation that is passed over, or comes to a value, has no fault.
-use Rattle.sig_schedule_laws.proofs.Common.{◌≡◌, ◌<◌, ◌≤◌, ◌-◌, ◌*◌, ◌++◌, ◌⊎◌, inl, inr, ℕ, ℤ, Bool, true, false, List, [], ◌∷◌, length, map, get_or, take, refl, ap, sym, subst, ◌∙◌, arith, Contains, None, Option, Some, is_some, option_to_list, slice_get, append-nil, Instant, Seen, Trace, flow_of, seen_at, EqId, OpId, SigId, Place, test, gives_bounded, one_longer, function_of, remembered, AreFlowsFor, Kernel, IsOutcome, compiled, Compiled, one_either, flow_more, next_in, at_most_or, form_in, have_map, none_where, same_operands, Actor, guard_holds, truths_of, Computes, HasFault, Meets, Faults, Gives, computed, computed_at, computed_by, computed_for, next_of, operand_in, outcome, outcome_by, IsActorOn, IsFaulty, instant_at, IsReference, divides_by_zero, has_64_bits, CodeView, Operation, operation_in, operations_in, signals_of, IsAccepted, PlanView, numbers_of, Step, Do, Cause, Exhausted, Limit, Overflow, ZeroDivisor, Op, OpKind, Compute, Read, written_below, IsSoundActor, get_map, got}
+use Rattle.sig_schedule_laws.proofs.Common.{compiled_operations, ◌≡◌, ◌<◌, ◌≤◌, ◌-◌, ◌*◌, ◌++◌, ◌⊎◌, inl, inr, ℕ, ℤ, Bool, true, false, List, [], ◌∷◌, length, map, get_or, take, refl, ap, sym, subst, ◌∙◌, arith, Contains, None, Option, Some, is_some, option_to_list, slice_get, append-nil, Instant, Seen, Trace, flow_of, seen_at, EqId, OpId, SigId, Place, test, gives_bounded, one_longer, function_of, remembered, AreFlowsFor, IsOutcome, compiled, Compiled, one_either, flow_more, next_in, at_most_or, form_in, have_map, none_where, same_operands, Actor, guard_holds, truths_of, Computes, HasFault, Meets, Faults, Gives, computed, computed_at, computed_by, computed_for, next_of, operand_in, outcome, outcome_by, IsActorOn, IsFaulty, instant_at, IsReference, divides_by_zero, has_64_bits, CodeView, Operation, operation_in, operations_in, signals_of, IsAccepted, PlanView, numbers_of, Step, Do, Cause, Exhausted, Limit, Overflow, ZeroDivisor, Op, OpKind, Compute, Read, written_below, IsSoundActor, get_map, got}
 use Rattle.sig_schedule_laws.proofs.Amid.{next_now}
 use Rattle.sig_schedule_laws.proofs.Done.{clock_is}
 use Rattle.sig_schedule_laws.proofs.NextOnReference.{is_at, outcome_is, reads}
@@ -25,13 +25,7 @@ fault_here plan accepted flows reference k code coded i s step o op at_s kind at
 module _ (plan : PlanView) (accepted : IsAccepted plan) (flows : List (List ℤ)) (fit : AreFlowsFor plan.kernel flows) (reference : Trace) (is : IsReference plan.kernel flows (length reference) reference)
     (k : ℕ) (code : CodeView) (coded : slice_get plan.codes k ≡ Some code) (actor : Actor) (on : IsActorOn plan reference code actor) (step : Step) (at_s : slice_get code.steps actor.step ≡ Some step)
     (o : OpId) (op : Op) (kind : step.kind ≡ Do o) (at : slice_get plan.ops o.0 ≡ Some op) where
-  abbrev kernel : Kernel
-  kernel = plan.kernel
-
-  abbrev operations : List Operation
-  operations = operations_in plan.store.nodes plan.ops
-
-  abbrev c : Compiled kernel plan.clocks.conditions operations (numbers_of plan.order)
+  abbrev c : Compiled plan.kernel plan.clocks.conditions (compiled_operations plan) (numbers_of plan.order)
   c = compiled plan accepted
 
   abbrev now : Instant
@@ -46,25 +40,25 @@ module _ (plan : PlanView) (accepted : IsAccepted plan) (flows : List (List ℤ)
   abbrev p : Operation
   p = operation_in plan.store.nodes op
 
-  at_p : slice_get operations o.0 ≡ Some p
+  at_p : slice_get (compiled_operations plan) o.0 ≡ Some p
   at_p = get_map (operation_in plan.store.nodes) plan.ops o.0 op at
 
-  clock : (x : SigId) → x.0 < length kernel.signals → is_some (seen_at now x.0) ≡ c.has.presence x own
-  clock x lt = clock_is plan accepted (remembered past) (next_in kernel flows past) now (next_now plan accepted flows fit reference is k code coded actor on step at_s) x lt
+  clock : (x : SigId) → x.0 < length plan.kernel.signals → is_some (seen_at now x.0) ≡ c.has.presence x own
+  clock x lt = clock_is plan accepted (remembered past) (next_in plan.kernel flows past) now (next_now plan accepted flows fit reference is k code coded actor on step at_s) x lt
 
   -- the read of an input is done where the input is there
   read_is : (x : SigId) → op.kind ≡ Read x → test plan.store.nodes op.guard own ≡ is_some (seen_at now x.0)
   read_is x of =
-      let either = (one_either kernel c.has.presence p (in_kernel plan accepted o.0 p at_p)).0 x of in
-      let lt : x.0 < length kernel.signals = omega (arith, either.1, c.valid.parts.interface, c.valid.parts.declared) in
+      let either = (one_either plan.kernel c.has.presence p (in_kernel plan accepted o.0 p at_p)).0 x of in
+      let lt : x.0 < length plan.kernel.signals = omega (arith, either.1, c.valid.parts.interface, c.valid.parts.declared) in
       ap (λ g. g own) either.2 ∙ sym (clock x lt)
 
   -- what computes is done where it gives a result
-  compute_is : op.kind ≡ Compute → (e : EqId) → op.eq ≡ Some e → (d : Computes kernel now e) → (op.writes ≡ Some d.target) × (op.reads ≡ signals_of d.operands) × (test plan.store.nodes op.guard own ≡ true)
+  compute_is : op.kind ≡ Compute → (e : EqId) → op.eq ≡ Some e → (d : Computes plan.kernel now e) → (op.writes ≡ Some d.target) × (op.reads ≡ signals_of d.operands) × (test plan.store.nodes op.guard own ≡ true)
   compute_is of e is_e d =
       let form = ap form_in d.is ∙ ap Some d.form in
-      let either = (one_either kernel c.has.presence p (in_kernel plan accepted o.0 p at_p)).1 e d.target d.function d.operands of is_e form in
-      let lt = written_below kernel c.valid plan.clocks.conditions operations c.has o.0 p at_p d.target either.0 in
+      let either = (one_either plan.kernel c.has.presence p (in_kernel plan accepted o.0 p at_p)).1 e d.target d.function d.operands of is_e form in
+      let lt = written_below plan.kernel c.valid plan.clocks.conditions (compiled_operations plan) c.has o.0 p at_p d.target either.0 in
       (either.0, either.2, ap (λ g. g own) either.1 ∙ sym (clock d.target lt) ∙ ap (λ (s : Seen). is_some s) d.gives)
 
   -- ---- an operation that is not done
@@ -101,7 +95,7 @@ module _ (plan : PlanView) (accepted : IsAccepted plan) (flows : List (List ℤ)
             fault = omega (arith, more, counted);
           })
 
-    pub passed_fault : (cause : Cause) → Meets p cause → HasFault kernel flows past now cause → ⊥
+    pub passed_fault : (cause : Cause) → Meets p cause → HasFault plan.kernel flows past now cause → ⊥
     passed_fault (Exhausted x) of beyond =
         let none : seen_at now x.0 ≡ None = none_where (seen_at now x.0) (sym (read_is x of) ∙ undone) in
         let same : length (flow_of x.0 (past ++ now ∷ [])) ≡ length (flow_of x.0 past) =
@@ -113,9 +107,9 @@ module _ (plan : PlanView) (accepted : IsAccepted plan) (flows : List (List ℤ)
 
   -- ---- an operation that comes to a value
 
-  module _ (holds : guard_holds plan code (seen_at now) step ≡ true) (v : ℤ) (gives : outcome kernel flows actor op ≡ Gives v) where
-    by_kind : (kd : OpKind) → op.kind ≡ kd → outcome_by kernel flows actor op kd ≡ Gives v
-    by_kind kd of = ap (outcome_by kernel flows actor op) (sym of) ∙ gives
+  module _ (holds : guard_holds plan code (seen_at now) step ≡ true) (v : ℤ) (gives : outcome plan.kernel flows actor op ≡ Gives v) where
+    by_kind : (kd : OpKind) → op.kind ≡ kd → outcome_by plan.kernel flows actor op kd ≡ Gives v
+    by_kind kd of = ap (outcome_by plan.kernel flows actor op) (sym of) ∙ gives
 
     within_flow : (x : SigId) → op.kind ≡ Read x → actor.taken x.0 < length (get_or flows x.0 [])
     within_flow x of = by (slice_get (get_or flows x.0 []) (actor.taken x.0)) refl where
@@ -124,22 +118,22 @@ module _ (plan : PlanView) (accepted : IsAccepted plan) (flows : List (List ℤ)
       by (Some w) some = (got (get_or flows x.0 []) (actor.taken x.0) w w some).0
 
     written : (x : SigId) → op.writes ≡ Some x → seen_at now x.0 ≡ Some v
-    written = subst (IsOutcome kernel flows past now p) gives (outcome_is plan accepted flows fit reference is k code coded actor on step at_s holds o op kind at)
+    written = subst (IsOutcome plan.kernel flows past now p) gives (outcome_is plan accepted flows fit reference is k code coded actor on step at_s holds o op kind at)
 
-    fine : (e : EqId) → op.kind ≡ Compute → op.eq ≡ Some e → (d : Computes kernel now e) → (has_64_bits d.result ≡ true) × (divides_by_zero (function_of d.function) d.values ≡ false)
+    fine : (e : EqId) → op.kind ≡ Compute → op.eq ≡ Some e → (d : Computes plan.kernel now e) → (has_64_bits d.result ≡ true) × (divides_by_zero (function_of d.function) d.values ≡ false)
     fine e of is_e d =
         let is_done = compute_is of e is_e d in
         let known = reads plan accepted flows fit reference is k code coded actor on step at_s holds o op kind at in
         let values : d.values ≡ map (operand_in actor.registers) d.operands =
         have_map now d.operands d.values d.have ∙ same_operands (seen_at now) actor.registers d.operands (λ x inside. sym (known x (subst (λ (xs : List SigId). Contains xs x) (sym is_done.1) inside))) in
         let result : computed e (function_of d.function) (map (operand_in actor.registers) d.operands) ≡ Gives v =
-        ap (computed_by actor.registers e) (sym d.form) ∙ ap (computed_at actor.registers e) (sym d.is) ∙ ap (computed_for kernel actor.registers) (sym is_e) ∙ by_kind Compute of in
+        ap (computed_by actor.registers e) (sym d.form) ∙ ap (computed_at actor.registers e) (sym d.is) ∙ ap (computed_for plan.kernel actor.registers) (sym is_e) ∙ by_kind Compute of in
         let parts = gives_bounded e (function_of d.function) (map (operand_in actor.registers) d.operands) v result in
         let both : Some d.result ≡ Some v = sym d.gives ∙ written d.target is_done.0 in
         let same : d.result ≡ v = cc in
         (ap has_64_bits same ∙ parts.1, ap (divides_by_zero (function_of d.function)) values ∙ parts.0)
 
-    pub done_fault : (cause : Cause) → Meets p cause → HasFault kernel flows past now cause → ⊥
+    pub done_fault : (cause : Cause) → Meets p cause → HasFault plan.kernel flows past now cause → ⊥
     done_fault (Exhausted x) of beyond = omega (arith, beyond, within_flow x of, (is_at plan accepted flows fit reference is k code coded actor on step at_s holds o op kind at).taken x of, one_longer past now x.0)
     done_fault (Overflow e) meets fault = let clash : true ≡ false = sym (fine e meets.0 meets.1 fault.0).0 ∙ fault.1 in cc
     done_fault (ZeroDivisor e) meets fault = let clash : true ≡ false = sym fault.1 ∙ (fine e meets.0 meets.1 fault.0).1 in cc

@@ -1,5 +1,5 @@
 -- What the steps of an actor read of an input, and store for a delay, are the values of its signal.
-use Rattle.sig_schedule_laws.proofs.Common.{◌≡◌, ◌<◌, ◌≤◌, ◌-◌, ◌*◌, ◌++◌, inr, ℕ, ℤ, Bool, true, false, cond, List, [], length, take, refl, ap, sym, subst, ◌∙◌, arith, Contains, None, Option, Some, is_some, option_to_list, slice_get, slice_index, eq-eqb, eqb-true, append-nil, Instant, Seen, Trace, flow_of, seen_at, EqId, OpId, SigId, test, store_stands, defined_once, one_memory, same_equation, same_signal, delayed_below, one_storing, Memory, target_of, AreFlowsFor, Equation, Delay, Kernel, IsNext, compiled, Compiled, one_either, stored, form_for, form_in, guard_holds, truths_of, defined_by, first_in, remembers, Yield, input_of, names, read_at, read_by, stored_at, stored_by, yielded_before, yielded_in, instant_at, IsReference, CodeView, Instruction, op_id, under, Operation, cluster_of, operation_in, operations_in, operations_of, Keeps, Precedes, IsAccepted, PlanView, numbers_of, Step, StepKind, Do, Send, Receive, Report, Collect, Commit, Op, OpKind, Read, Compute, Left, Right, DelayRead, Store, does_there, kept_order, stands_once, operations_written, contains_at, get_map, got, taken_get}
+use Rattle.sig_schedule_laws.proofs.Common.{compiled_operations, compiled_order, ◌≡◌, ◌<◌, ◌≤◌, ◌-◌, ◌*◌, ◌++◌, inr, ℕ, ℤ, Bool, true, false, cond, List, [], length, take, refl, ap, sym, subst, ◌∙◌, arith, Contains, None, Option, Some, is_some, option_to_list, slice_get, slice_index, eq-eqb, eqb-true, append-nil, Instant, Seen, Trace, flow_of, seen_at, EqId, OpId, SigId, test, store_stands, defined_once, one_memory, same_equation, same_signal, delayed_below, one_storing, Memory, target_of, AreFlowsFor, Equation, Delay, Kernel, IsNext, compiled, Compiled, one_either, stored, form_for, form_in, guard_holds, truths_of, defined_by, first_in, remembers, Yield, input_of, names, read_at, read_by, stored_at, stored_by, yielded_before, yielded_in, instant_at, IsReference, CodeView, Instruction, op_id, under, Operation, cluster_of, operation_in, operations_of, Keeps, Precedes, IsAccepted, PlanView, Step, StepKind, Do, Send, Receive, Report, Collect, Commit, Op, OpKind, Read, Compute, Left, Right, DelayRead, Store, does_there, kept_order, stands_once, operations_written, contains_at, get_map, got, taken_get}
 use Rattle.sig_schedule_laws.proofs.Done.{clock_is, done_once}
 use Rattle.sig_schedule_laws.proofs.Ends.{nothing_from}
 use Rattle.sig_schedule_laws.proofs.Instants.{next_at, next_some}
@@ -42,22 +42,13 @@ defining kernel d y is = by (slice_get kernel.equations d.0) refl where
   by (Some q) some = (q, some, sym (ap target_in some) ∙ is)
 
 module _ (plan : PlanView) (accepted : IsAccepted plan) where
-  abbrev kernel : Kernel
-  kernel = plan.kernel
-
-  abbrev operations : List Operation
-  operations = operations_in plan.store.nodes plan.ops
-
-  abbrev order : List ℕ
-  order = numbers_of plan.order
-
-  abbrev c : Compiled kernel plan.clocks.conditions operations order
+  abbrev c : Compiled plan.kernel plan.clocks.conditions (compiled_operations plan) (compiled_order plan)
   c = compiled plan accepted
 
-  pub in_kernel : (number : ℕ) (p : Operation) → slice_get operations number ≡ Some p → Contains (operations_of kernel c.has.presence) p
-  in_kernel number p at = subst (λ (ps : List Operation). Contains ps p) c.has.are (contains_at operations number p at)
+  pub in_kernel : (number : ℕ) (p : Operation) → slice_get (compiled_operations plan) number ≡ Some p → Contains (operations_of plan.kernel c.has.presence) p
+  in_kernel number p at = subst (λ (ps : List Operation). Contains ps p) c.has.are (contains_at (compiled_operations plan) number p at)
 
-  at_kernel : (number : ℕ) (op : Op) → slice_get plan.ops number ≡ Some op → slice_get (operations_of kernel c.has.presence) number ≡ Some (operation_in plan.store.nodes op)
+  at_kernel : (number : ℕ) (op : Op) → slice_get plan.ops number ≡ Some op → slice_get (operations_of plan.kernel c.has.presence) number ≡ Some (operation_in plan.store.nodes op)
   at_kernel number op at = subst (λ (ps : List Operation). slice_get ps number ≡ Some (operation_in plan.store.nodes op)) c.has.are (get_map (operation_in plan.store.nodes) plan.ops number op at)
 
   -- ---- steps that read an input, or store for a delay
@@ -91,13 +82,13 @@ module _ (plan : PlanView) (accepted : IsAccepted plan) where
     pub at : slice_get plan.ops o.0 ≡ Some op
     pub d : EqId
     pub stores : op.kind ≡ Store d
-    pub defines : defined_by kernel d ≡ Some y
+    pub defines : defined_by plan.kernel d ≡ Some y
 
-  store_op : (y : SigId) (instant : Instant) (o : OpId) (w : ℤ) (found : Option Op) → slice_get plan.ops o.0 ≡ found → stored_by kernel y.0 instant found ≡ Some w → StoresAt y instant (Do o) w
+  store_op : (y : SigId) (instant : Instant) (o : OpId) (w : ℤ) (found : Option Op) → slice_get plan.ops o.0 ≡ found → stored_by plan.kernel y.0 instant found ≡ Some w → StoresAt y instant (Do o) w
   store_op y instant o w None at is = absurd (let f : None ≡ Some w = is in cc)
   store_op y instant o w (Some op) at is =
-      let both = when_named (names y.0 (remembers kernel op.kind)) (Some (first_in (seen_at instant) op.reads)) w is in
-      let found = stores_delay kernel op.kind y (named_is y (remembers kernel op.kind) both.0) in
+      let both = when_named (names y.0 (remembers plan.kernel op.kind)) (Some (first_in (seen_at instant) op.reads)) w is in
+      let found = stores_delay plan.kernel op.kind y (named_is y (remembers plan.kernel op.kind) both.0) in
       record { o = o; op = op; is = refl; at = at; d = found.0; stores = found.1; defines = found.2 }
 
   pub stores_at : (y : SigId) (instant : Instant) (kind : StepKind) (w : ℤ) → stored_at plan y.0 instant kind ≡ Some w → StoresAt y instant kind w
@@ -120,11 +111,11 @@ module _ (plan : PlanView) (accepted : IsAccepted plan) where
       abbrev p : Operation
       p = operation_in plan.store.nodes op
 
-      at_p : slice_get operations o.0 ≡ Some p
+      at_p : slice_get (compiled_operations plan) o.0 ≡ Some p
       at_p = get_map (operation_in plan.store.nodes) plan.ops o.0 op at
 
       module _ (x : SigId) (reads : op.kind ≡ Read x) where
-        module _ (memory : Memory) (next : ℕ → ℤ) (instant : Instant) (is : IsNext kernel memory next instant) where
+        module _ (memory : Memory) (next : ℕ → ℤ) (instant : Instant) (is : IsNext plan.kernel memory next instant) where
           abbrev own : List Bool
           own = truths_of plan.clocks.conditions (seen_at instant)
 
@@ -132,8 +123,8 @@ module _ (plan : PlanView) (accepted : IsAccepted plan) where
           done_as : (n : ℕ) (q : Op) → slice_get plan.ops n ≡ Some q → q.kind ≡ Read x → (q.writes ≡ Some x) × (test plan.store.nodes q.guard own ≡ is_some (seen_at instant x.0))
           done_as n q at_n of =
               let at_q = get_map (operation_in plan.store.nodes) plan.ops n q at_n in
-              let either = (one_either kernel c.has.presence (operation_in plan.store.nodes q) (in_kernel n (operation_in plan.store.nodes q) at_q)).0 x of in
-              let lt : x.0 < length kernel.signals = omega (arith, either.1, c.valid.parts.interface, c.valid.parts.declared) in
+              let either = (one_either plan.kernel c.has.presence (operation_in plan.store.nodes q) (in_kernel n (operation_in plan.store.nodes q) at_q)).0 x of in
+              let lt : x.0 < length plan.kernel.signals = omega (arith, either.1, c.valid.parts.interface, c.valid.parts.declared) in
               (either.0, ap (λ g. g own) either.2 ∙ sym (clock_is plan accepted memory next instant is x lt))
 
           read_once : (m : ℕ) (b : Step) (w : ℤ) → slice_get code.steps m ≡ Some b → guard_holds plan code (seen_at instant) b ≡ true → read_at plan x.0 instant b.kind ≡ Some w → m ≡ s
@@ -169,12 +160,12 @@ module _ (plan : PlanView) (accepted : IsAccepted plan) where
 
       -- ---- the read of a delay
 
-      module _ (e : EqId) (equation : Equation) (y x : SigId) (initial : ℤ) (at_e : slice_get kernel.equations e.0 ≡ Some equation) (form : equation.form ≡ Delay y x initial) (writes : op.writes ≡ Some y) where
-        shape : form_for kernel (Some e) ≡ Some (Delay y x initial)
+      module _ (e : EqId) (equation : Equation) (y x : SigId) (initial : ℤ) (at_e : slice_get plan.kernel.equations e.0 ≡ Some equation) (form : equation.form ≡ Delay y x initial) (writes : op.writes ≡ Some y) where
+        shape : form_for plan.kernel (Some e) ≡ Some (Delay y x initial)
         shape = ap form_in at_e ∙ ap Some form
 
-        lt : x.0 < length kernel.signals
-        lt = delayed_below kernel accepted.valid e.0 equation y x initial at_e form
+        lt : x.0 < length plan.kernel.signals
+        lt = delayed_below plan.kernel accepted.valid e.0 equation y x initial at_e form
 
         pub record IsStoreStep : Type 0 where
           pub n : ℕ
@@ -193,11 +184,11 @@ module _ (plan : PlanView) (accepted : IsAccepted plan) where
             let store : Operation = operation_in plan.store.nodes before.op in
             let at_store = get_map (operation_in plan.store.nodes) plan.ops before.stands.number.0 before.op before.stands.is in
             let placed = get_map (λ (z : OpId). z.0) plan.order before.at before.stands.number before.stands.ordered in
-            let own = store_cluster kernel c.has.presence store (in_kernel before.stands.number.0 store at_store) e y x initial before.does shape in
-            let owner = (operations_written kernel c.has.presence operations c.valid c.has.are).owner p y (o.0, at_p) writes in
+            let own = store_cluster plan.kernel c.has.presence store (in_kernel before.stands.number.0 store at_store) e y x initial before.does shape in
+            let owner = (operations_written plan.kernel c.has.presence (compiled_operations plan) c.valid c.has.are).owner p y (o.0, at_p) writes in
             let here = op_done plan accepted k code coded s step o op at_s kind at in
             let cluster : store.cluster ≡ k = own ∙ ap cluster_of owner.1 ∙ sym owner.2 ∙ ap (λ (z : Operation). z.cluster) (sym here.2) ∙ here.1.own in
-            let reading = one_memory kernel c.valid c.has.presence e y x initial equation at_e form p (in_kernel o.0 p at_p) writes in
+            let reading = one_memory plan.kernel c.valid c.has.presence e y x initial equation at_e form p (in_kernel o.0 p at_p) writes in
             let keeping : Keeps here.1.p store = record {
               delay = e;
               read = ap (λ (z : Operation). z.kind) here.2 ∙ reading.0;
@@ -205,14 +196,14 @@ module _ (plan : PlanView) (accepted : IsAccepted plan) where
               store = before.does;
             } in
             let full = accepted.order.all in
-            let there = got order before.at 0 before.stands.number.0 placed in
-            let precedes : Precedes plan.clocks.conditions operations o.0 (slice_index order before.at) =
-            record { p = here.1.p; q = store; is = here.1.stands.is; other = ap (slice_get operations) there.1 ∙ at_store; before = inr (inr keeping) } in
-            let earlier = kept_order (Precedes plan.clocks.conditions operations) (length operations) order accepted.order before.at (omega (arith, there.0, full)) o.0 precedes in
-            let mine = got order here.1.j 0 o.0 here.1.stands.place in
-            let first = stands_once (Precedes plan.clocks.conditions operations) (length operations) order accepted.order earlier.0 here.1.j (omega (arith, earlier.1, there.0, full)) (omega (arith, mine.0, full)) (earlier.2 ∙ sym mine.1) in
+            let there = got (compiled_order plan) before.at 0 before.stands.number.0 placed in
+            let precedes : Precedes plan.clocks.conditions (compiled_operations plan) o.0 (slice_index (compiled_order plan) before.at) =
+            record { p = here.1.p; q = store; is = here.1.stands.is; other = ap (slice_get (compiled_operations plan)) there.1 ∙ at_store; before = inr (inr keeping) } in
+            let earlier = kept_order (Precedes plan.clocks.conditions (compiled_operations plan)) (length (compiled_operations plan)) (compiled_order plan) accepted.order before.at (omega (arith, there.0, full)) o.0 precedes in
+            let mine = got (compiled_order plan) here.1.j 0 o.0 here.1.stands.place in
+            let first = stands_once (Precedes plan.clocks.conditions (compiled_operations plan)) (length (compiled_operations plan)) (compiled_order plan) accepted.order earlier.0 here.1.j (omega (arith, earlier.1, there.0, full)) (omega (arith, mine.0, full)) (earlier.2 ∙ sym mine.1) in
             let i : Instruction = under store (Do (op_id before.stands.number.0)) (2 * before.at) in
-            let found = instruction_step plan accepted k code coded i (does_there operations order accepted.parts k before.at before.stands.number.0 store (record { place = placed; is = at_store }) cluster) in
+            let found = instruction_step plan accepted k code coded i (does_there (compiled_operations plan) (compiled_order plan) accepted.parts k before.at before.stands.number.0 store (record { place = placed; is = at_store }) cluster) in
             let position : found.3.i.position ≡ 2 * before.at = ap (λ (z : Instruction). z.position) found.4 in
             let mine_at : here.0.i.position ≡ 2 * here.1.j = here.1.position in
             record {
@@ -227,7 +218,7 @@ module _ (plan : PlanView) (accepted : IsAccepted plan) where
               later = before_by_position plan accepted k code coded s found.0 step found.1 here.0 found.3 (omega (arith, position, mine_at, first, earlier.1));
             }
 
-        module _ (memory : Memory) (next : ℕ → ℤ) (instant : Instant) (is : IsNext kernel memory next instant) where
+        module _ (memory : Memory) (next : ℕ → ℤ) (instant : Instant) (is : IsNext plan.kernel memory next instant) where
           abbrev truths : List Bool
           truths = truths_of plan.clocks.conditions (seen_at instant)
 
@@ -235,17 +226,17 @@ module _ (plan : PlanView) (accepted : IsAccepted plan) where
           stored_as : (m : ℕ) (q : Op) → slice_get plan.ops m ≡ Some q → q.kind ≡ Store e → test plan.store.nodes q.guard truths ≡ is_some (seen_at instant x.0)
           stored_as m q at_m of =
               let at_q = get_map (operation_in plan.store.nodes) plan.ops m q at_m in
-              ap (λ g. g truths) (one_storing kernel c.has.presence (operation_in plan.store.nodes q) (in_kernel m (operation_in plan.store.nodes q) at_q) e y x initial of shape) ∙ sym (clock_is plan accepted memory next instant is x lt)
+              ap (λ g. g truths) (one_storing plan.kernel c.has.presence (operation_in plan.store.nodes q) (in_kernel m (operation_in plan.store.nodes q) at_q) e y x initial of shape) ∙ sym (clock_is plan accepted memory next instant is x lt)
 
           it_stores : (kd : StepKind) (w : ℤ) → (r : StoresAt y instant kd w) → r.op.kind ≡ Store e
           it_stores kd w r =
-              let found = defining kernel r.d y r.defines in
-              r.stores ∙ ap Store (same_equation r.d e (defined_once kernel accepted.valid r.d.0 e.0 found.0 equation y found.1 at_e found.2 (ap target_of form)))
+              let found = defining plan.kernel r.d y r.defines in
+              r.stores ∙ ap Store (same_equation r.d e (defined_once plan.kernel accepted.valid r.d.0 e.0 found.0 equation y found.1 at_e found.2 (ap target_of form)))
 
           stored_once : (m : ℕ) (b : Step) (w : ℤ) → slice_get code.steps m ≡ Some b → stored_at plan y.0 instant b.kind ≡ Some w → m ≡ store_step.n
           stored_once m b w at_m given =
               let r = stores_at y instant b.kind w given in
-              let number = stores_once kernel c.has.presence e r.o.0 store_step.q.0 (operation_in plan.store.nodes r.op) (operation_in plan.store.nodes store_step.store)
+              let number = stores_once plan.kernel c.has.presence e r.o.0 store_step.q.0 (operation_in plan.store.nodes r.op) (operation_in plan.store.nodes store_step.store)
               (at_kernel r.o.0 r.op r.at) (at_kernel store_step.q.0 store_step.store store_step.at_q) (it_stores b.kind w r) store_step.stores in
               does_once plan accepted k code coded m store_step.n b store_step.a r.o store_step.q at_m store_step.at_n r.is store_step.does number
 
@@ -256,8 +247,8 @@ module _ (plan : PlanView) (accepted : IsAccepted plan) where
 
           pub stored_in : yielded_in plan code (stored_at plan y.0) instant code.steps ≡ option_to_list (seen_at instant x.0)
           stored_in = by (seen_at instant x.0) refl where
-            remembered_here : remembers kernel store_step.store.kind ≡ Some y
-            remembered_here = ap (remembers kernel) store_step.stores ∙ ap target_in at_e ∙ ap target_of form
+            remembered_here : remembers plan.kernel store_step.store.kind ≡ Some y
+            remembered_here = ap (remembers plan.kernel) store_step.stores ∙ ap target_in at_e ∙ ap target_of form
 
             by : (z : Seen) → seen_at instant x.0 ≡ z → yielded_in plan code (stored_at plan y.0) instant code.steps ≡ option_to_list z
             by None none = none_chosen (λ b. cond (guard_holds plan code (seen_at instant) b) (stored_at plan y.0 instant b.kind) None) code.steps (λ m b at_m.
@@ -268,10 +259,10 @@ module _ (plan : PlanView) (accepted : IsAccepted plan) where
             by (Some v) some =
                 let done : test plan.store.nodes store_step.store.guard truths ≡ true = stored_as store_step.q.0 store_step.store store_step.at_q store_step.stores ∙ ap (λ (z : Seen). is_some z) some in
                 let holds : guard_holds plan code (seen_at instant) store_step.a ≡ true = done_by store_step.n store_step.a store_step.q store_step.store store_step.at_n store_step.does store_step.at_q instant ∙ done in
-                let kept = stored kernel plan.clocks.conditions operations order c memory next instant is store_step.q.0 (operation_in plan.store.nodes store_step.store)
+                let kept = stored plan.kernel plan.clocks.conditions (compiled_operations plan) (compiled_order plan) c memory next instant is store_step.q.0 (operation_in plan.store.nodes store_step.store)
                 (get_map (operation_in plan.store.nodes) plan.ops store_step.q.0 store_step.store store_step.at_q) done e y x initial store_step.stores shape (seen_at instant) (λ z there. refl) in
                 let gives : stored_at plan y.0 instant store_step.a.kind ≡ Some v =
-                ap (stored_at plan y.0 instant) store_step.does ∙ ap (stored_by kernel y.0 instant) store_step.at_q
+                ap (stored_at plan y.0 instant) store_step.does ∙ ap (stored_by plan.kernel y.0 instant) store_step.at_q
                 ∙ ap (λ target. cond (names y.0 target) (Some (first_in (seen_at instant) store_step.store.reads)) None) remembered_here
                 ∙ ap (λ b. cond b (Some (first_in (seen_at instant) store_step.store.reads)) None) (eq-eqb y.0 y.0 refl) ∙ sym kept ∙ some in
                 one_chosen (λ b. cond (guard_holds plan code (seen_at instant) b) (stored_at plan y.0 instant b.kind) None) code.steps store_step.n store_step.a v store_step.at_n
@@ -280,12 +271,12 @@ module _ (plan : PlanView) (accepted : IsAccepted plan) where
 
       -- ---- over the reference
 
-      module _ (flows : List (List ℤ)) (fit : AreFlowsFor kernel flows) (reference : Trace) (is : IsReference kernel flows (length reference) reference) (i : ℕ) (from : 1 ≤ i) (within : i ≤ length reference) where
+      module _ (flows : List (List ℤ)) (fit : AreFlowsFor plan.kernel flows) (reference : Trace) (is : IsReference plan.kernel flows (length reference) reference) (i : ℕ) (from : 1 ≤ i) (within : i ≤ length reference) where
         abbrev past : Trace
         past = take (i - 1) reference
 
         whole_before : (yield : Yield) (x : SigId)
-            → ((memory : Memory) (next : ℕ → ℤ) (instant : Instant) → IsNext kernel memory next instant → (yielded_in plan code yield instant (take s code.steps) ≡ []) × (yielded_in plan code yield instant code.steps ≡ option_to_list (seen_at instant x.0)))
+            → ((memory : Memory) (next : ℕ → ℤ) (instant : Instant) → IsNext plan.kernel memory next instant → (yielded_in plan code yield instant (take s code.steps) ≡ []) × (yielded_in plan code yield instant code.steps ≡ option_to_list (seen_at instant x.0)))
             → yielded_before plan code yield reference i s ≡ flow_of x.0 past
         whole_before yield x each =
             let now = instant_at reference i in
@@ -298,7 +289,7 @@ module _ (plan : PlanView) (accepted : IsAccepted plan) where
         pub read_before : (x : SigId) → op.kind ≡ Read x → yielded_before plan code (read_at plan x.0) reference i s ≡ flow_of x.0 past
         read_before x reads = whole_before (read_at plan x.0) x (λ memory next instant is_next. (none_read_before x reads memory next instant is_next, read_in x reads memory next instant is_next))
 
-        pub stored_before : (e : EqId) (equation : Equation) (y x : SigId) (initial : ℤ) → slice_get kernel.equations e.0 ≡ Some equation → equation.form ≡ Delay y x initial → op.writes ≡ Some y
+        pub stored_before : (e : EqId) (equation : Equation) (y x : SigId) (initial : ℤ) → slice_get plan.kernel.equations e.0 ≡ Some equation → equation.form ≡ Delay y x initial → op.writes ≡ Some y
             → yielded_before plan code (stored_at plan y.0) reference i s ≡ flow_of x.0 past
         stored_before e equation y x initial at_e form writes = whole_before (stored_at plan y.0) x (λ memory next instant is_next.
             (none_stored_before e equation y x initial at_e form writes memory next instant is_next, stored_in e equation y x initial at_e form writes memory next instant is_next))

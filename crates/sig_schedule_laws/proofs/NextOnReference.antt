@@ -1,5 +1,5 @@
 -- What an actor on the reference makes of its next step: it stays on the reference, or has a fault there.
-use Rattle.sig_schedule_laws.proofs.Common.{◌≡◌, ◌≤◌, ◌-◌, ◌+◌, ◌*◌, ◌++◌, inl, inr, ℕ, suc, ℤ, pos, Bool, true, false, cond, List, [], ◌∷◌, length, take, refl, ap, sym, subst, ◌∙◌, arith, Contains, None, Option, Some, option_to_list, slice_get, unwrap_or, ◌&&◌, and_from, and_left, and_right, eq-eqb, ne_eqb, append-nil, length-append, Instant, Seen, Trace, seen_at, OpId, SigId, test, defined_once, initial_is, last_of, target_of, AreFlowsFor, Kernel, IsAt, IsOutcome, compiled, Compiled, fitting, one_either, reference_outcome, Actor, Registers, guard_holds, initial_in, next_place, position_of, truths_of, with_at, with_signal, HasFault, Meets, Faults, Gives, first_in, operated, outcome, outcome_by, remembers, taken_by, IsActorOn, IsFaulty, Yield, fills, input_of, instant_at, names, read_at, read_by, register_before, stored_at, stored_by, target_of_op, yielded_before, IsReference, carried, received, CodeView, Operation, operation_in, operations_in, IsAccepted, PlanView, numbers_of, Step, Do, Receive, Cause, Op, OpKind, Read, Compute, Left, Right, DelayRead, Store, contains_head, cases_eq, get_map}
+use Rattle.sig_schedule_laws.proofs.Common.{compiled_operations, compiled_order, ◌≡◌, ◌≤◌, ◌-◌, ◌+◌, ◌*◌, ◌++◌, inl, inr, ℕ, suc, ℤ, pos, Bool, true, false, cond, List, [], ◌∷◌, length, take, refl, ap, sym, subst, ◌∙◌, arith, Contains, None, Option, Some, option_to_list, slice_get, unwrap_or, ◌&&◌, and_from, and_left, and_right, eq-eqb, ne_eqb, append-nil, length-append, Instant, Seen, Trace, seen_at, OpId, SigId, test, defined_once, initial_is, last_of, target_of, AreFlowsFor, IsAt, IsOutcome, compiled, Compiled, fitting, one_either, reference_outcome, Actor, Registers, guard_holds, initial_in, next_place, position_of, truths_of, with_at, with_signal, HasFault, Meets, Faults, Gives, first_in, operated, outcome, outcome_by, remembers, taken_by, IsActorOn, IsFaulty, Yield, fills, input_of, instant_at, names, read_at, read_by, register_before, stored_at, stored_by, target_of_op, yielded_before, IsReference, carried, received, CodeView, Operation, operation_in, IsAccepted, PlanView, Step, Do, Receive, Cause, Op, OpKind, Read, Compute, Left, Right, DelayRead, Store, contains_head, cases_eq, get_map}
 use Rattle.sig_schedule_laws.proofs.Amid.{guard_known, reads_known}
 use Rattle.sig_schedule_laws.proofs.Inputs.{done_by, in_kernel, read_before, stored_before, stores_delay}
 use Rattle.sig_schedule_laws.proofs.Instants.{reference_to}
@@ -31,16 +31,7 @@ gives_value a b e = cc
 
 module _ (plan : PlanView) (accepted : IsAccepted plan) (flows : List (List ℤ)) (fit : AreFlowsFor plan.kernel flows) (reference : Trace) (is : IsReference plan.kernel flows (length reference) reference)
     (k : ℕ) (code : CodeView) (coded : slice_get plan.codes k ≡ Some code) (actor : Actor) (on : IsActorOn plan reference code actor) (step : Step) (at_s : slice_get code.steps actor.step ≡ Some step) where
-  abbrev kernel : Kernel
-  kernel = plan.kernel
-
-  abbrev operations : List Operation
-  operations = operations_in plan.store.nodes plan.ops
-
-  abbrev order : List ℕ
-  order = numbers_of plan.order
-
-  abbrev c : Compiled kernel plan.clocks.conditions operations order
+  abbrev c : Compiled plan.kernel plan.clocks.conditions (compiled_operations plan) (compiled_order plan)
   c = compiled plan accepted
 
   abbrev now : Instant
@@ -86,7 +77,7 @@ module _ (plan : PlanView) (accepted : IsAccepted plan) (flows : List (List ℤ)
       within = long;
       step = on.step;
       registers = λ n. on.registers n ∙ sym (not_filled plan code reference now actor.step step at_s n (fill n));
-      memories = λ n. on.memories n ∙ ap (last_of (initial_in kernel.equations n)) (sym (behind_same (stored_at plan n) (store n)));
+      memories = λ n. on.memories n ∙ ap (last_of (initial_in plan.kernel.equations n)) (sym (behind_same (stored_at plan n) (store n)));
       taken = λ n. on.taken n ∙ ap (λ (items : List ℤ). length items) (sym (behind_same (read_at plan n) (read n)));
     }
 
@@ -121,7 +112,7 @@ module _ (plan : PlanView) (accepted : IsAccepted plan) (flows : List (List ℤ)
         within = long;
         step = on.step;
         registers = λ n. filled_registers item n (carried plan.links j) (ap (fills plan) kind) given;
-        memories = λ n. on.memories n ∙ ap (last_of (initial_in kernel.equations n)) (sym (behind_same (stored_at plan n) (kind_chosen (stored_at plan n) (ap (stored_at plan n now) kind))));
+        memories = λ n. on.memories n ∙ ap (last_of (initial_in plan.kernel.equations n)) (sym (behind_same (stored_at plan n) (kind_chosen (stored_at plan n) (ap (stored_at plan n now) kind))));
         taken = λ n. on.taken n ∙ ap (λ (items : List ℤ). length items) (sym (behind_same (read_at plan n) (kind_chosen (read_at plan n) (ap (read_at plan n now) kind))));
       }
 
@@ -131,7 +122,7 @@ module _ (plan : PlanView) (accepted : IsAccepted plan) (flows : List (List ℤ)
     abbrev p : Operation
     p = operation_in plan.store.nodes op
 
-    at_p : slice_get operations o.0 ≡ Some p
+    at_p : slice_get (compiled_operations plan) o.0 ≡ Some p
     at_p = get_map (operation_in plan.store.nodes) plan.ops o.0 op at
 
     done : test plan.store.nodes op.guard (truths_of plan.clocks.conditions (seen_at now)) ≡ true
@@ -140,25 +131,25 @@ module _ (plan : PlanView) (accepted : IsAccepted plan) (flows : List (List ℤ)
     pub reads : (x : SigId) → Contains op.reads x → actor.registers x.0 ≡ seen_at now x.0
     reads = reads_known plan accepted flows fit reference is k code coded actor on step at_s holds o op kind at
 
-    pub is_at : IsAt kernel past now op actor
+    pub is_at : IsAt plan.kernel past now op actor
     is_at = record {
       reads = reads;
       memories = λ number y x initial equation there form writes.
           on.memories y.0
-          ∙ ap (λ first. last_of first (before (stored_at plan y.0))) (initial_is kernel.equations number equation y x initial there form (λ i q at_i target. defined_once kernel accepted.valid i number q equation y at_i there target (ap target_of form)))
+          ∙ ap (λ first. last_of first (before (stored_at plan y.0))) (initial_is plan.kernel.equations number equation y x initial there form (λ i q at_i target. defined_once plan.kernel accepted.valid i number q equation y at_i there target (ap target_of form)))
           ∙ ap (last_of initial) (stored_before plan accepted k code coded actor.step step o op at_s kind at flows fit reference is actor.instant on.from on.within (record { 0 = number }) equation y x initial there form writes);
       taken = λ x of. on.taken x.0 ∙ ap (λ (items : List ℤ). length items) (read_before plan accepted k code coded actor.step step o op at_s kind at flows fit reference is actor.instant on.from on.within x of);
     }
 
-    pub outcome_is : IsOutcome kernel flows past now p (outcome kernel flows actor op)
-    outcome_is = reference_outcome kernel plan.clocks.conditions operations order c flows (fitting plan accepted flows fit) past now (reference_to plan accepted flows fit reference is actor.instant on.from on.within)
+    pub outcome_is : IsOutcome plan.kernel flows past now p (outcome plan.kernel flows actor op)
+    outcome_is = reference_outcome plan.kernel plan.clocks.conditions (compiled_operations plan) (compiled_order plan) c flows (fitting plan accepted flows fit) past now (reference_to plan accepted flows fit reference is actor.instant on.from on.within)
         plan.store.nodes o.0 op at_p actor is_at done
 
     -- a fault of the operation is one of the reference
-    pub faulty : (cause : Cause) → outcome kernel flows actor op ≡ Faults cause → IsFaulty plan flows reference (next_place code actor)
+    pub faulty : (cause : Cause) → outcome plan.kernel flows actor op ≡ Faults cause → IsFaulty plan flows reference (next_place code actor)
     faulty cause fails =
         let found = op_done plan accepted k code coded actor.step step o op at_s kind at in
-        let met : Meets p cause × HasFault kernel flows past now cause = subst (IsOutcome kernel flows past now p) fails outcome_is in
+        let met : Meets p cause × HasFault plan.kernel flows past now cause = subst (IsOutcome plan.kernel flows past now p) fails outcome_is in
         let position : position_of (slice_get code.steps actor.step) ≡ 2 * found.1.j = ap position_of at_s ∙ found.0.position ∙ found.1.position in
         record {
           from = on.from;
@@ -170,26 +161,26 @@ module _ (plan : PlanView) (accepted : IsAccepted plan) (flows : List (List ℤ)
           fault = met.1;
         }
 
-    module _ (long : actor.instant + 1 ≤ length reference) (v : ℤ) (gives : outcome kernel flows actor op ≡ Gives v) where
+    module _ (long : actor.instant + 1 ≤ length reference) (v : ℤ) (gives : outcome plan.kernel flows actor op ≡ Gives v) where
       given : (x : SigId) → op.writes ≡ Some x → seen_at now x.0 ≡ Some v
-      given = subst (IsOutcome kernel flows past now p) gives outcome_is
+      given = subst (IsOutcome plan.kernel flows past now p) gives outcome_is
 
-      stored_value : (y : SigId) → remembers kernel op.kind ≡ Some y → v ≡ first_in (seen_at now) op.reads
+      stored_value : (y : SigId) → remembers plan.kernel op.kind ≡ Some y → v ≡ first_in (seen_at now) op.reads
       stored_value y remembered =
-          let found = stores_delay kernel op.kind y remembered in
-          let e : Gives (first_in actor.registers op.reads) ≡ Gives v = ap (outcome_by kernel flows actor op) (sym found.1) ∙ gives in
+          let found = stores_delay plan.kernel op.kind y remembered in
+          let e : Gives (first_in actor.registers op.reads) ≡ Gives v = ap (outcome_by plan.kernel flows actor op) (sym found.1) ∙ gives in
           sym (gives_value (first_in actor.registers op.reads) v e) ∙ first_same actor.registers (seen_at now) op.reads reads
 
-      memory_of : (n : ℕ) (target : Option SigId) → remembers kernel op.kind ≡ target
-          → with_signal target v actor.memories n ≡ last_of (initial_in kernel.equations n) (before (stored_at plan n) ++ option_to_list (cond (names n target) (Some (first_in (seen_at now) op.reads)) None))
-      memory_of n None remembered = on.memories n ∙ ap (last_of (initial_in kernel.equations n)) (sym (append-nil (before (stored_at plan n))))
+      memory_of : (n : ℕ) (target : Option SigId) → remembers plan.kernel op.kind ≡ target
+          → with_signal target v actor.memories n ≡ last_of (initial_in plan.kernel.equations n) (before (stored_at plan n) ++ option_to_list (cond (names n target) (Some (first_in (seen_at now) op.reads)) None))
+      memory_of n None remembered = on.memories n ∙ ap (last_of (initial_in plan.kernel.equations n)) (sym (append-nil (before (stored_at plan n))))
       memory_of n (Some y) remembered = elim (cases_eq y.0 n) [
         | inl same ↦
-            at_same y.0 v actor.memories n same ∙ stored_value y remembered ∙ sym (last_more (initial_in kernel.equations n) (before (stored_at plan n)) (first_in (seen_at now) op.reads))
-            ∙ ap (λ b. last_of (initial_in kernel.equations n) (before (stored_at plan n) ++ option_to_list (cond b (Some (first_in (seen_at now) op.reads)) None))) (sym (eq-eqb y.0 n same))
+            at_same y.0 v actor.memories n same ∙ stored_value y remembered ∙ sym (last_more (initial_in plan.kernel.equations n) (before (stored_at plan n)) (first_in (seen_at now) op.reads))
+            ∙ ap (λ b. last_of (initial_in plan.kernel.equations n) (before (stored_at plan n) ++ option_to_list (cond b (Some (first_in (seen_at now) op.reads)) None))) (sym (eq-eqb y.0 n same))
         | inr apart ↦
-            at_other y.0 v actor.memories n apart ∙ on.memories n ∙ ap (last_of (initial_in kernel.equations n)) (sym (append-nil (before (stored_at plan n))))
-            ∙ ap (λ b. last_of (initial_in kernel.equations n) (before (stored_at plan n) ++ option_to_list (cond b (Some (first_in (seen_at now) op.reads)) None))) (sym (ne_eqb y.0 n apart))
+            at_other y.0 v actor.memories n apart ∙ on.memories n ∙ ap (last_of (initial_in plan.kernel.equations n)) (sym (append-nil (before (stored_at plan n))))
+            ∙ ap (λ b. last_of (initial_in plan.kernel.equations n) (before (stored_at plan n) ++ option_to_list (cond b (Some (first_in (seen_at now) op.reads)) None))) (sym (ne_eqb y.0 n apart))
       ]
 
       taken_same : (n : ℕ) → actor.taken n ≡ length (before (read_at plan n) ++ [])
@@ -198,7 +189,7 @@ module _ (plan : PlanView) (accepted : IsAccepted plan) (flows : List (List ℤ)
       taken_of : (n : ℕ) (kd : OpKind) → op.kind ≡ kd → taken_by kd actor.taken n ≡ length (before (read_at plan n) ++ option_to_list (cond (names n (input_of kd)) (seen_at now n) None))
       taken_of n (Read x) of = elim (cases_eq x.0 n) [
         | inl same ↦
-            let writes : op.writes ≡ Some x = ((one_either kernel c.has.presence p (in_kernel plan accepted o.0 p at_p)).0 x of).0 in
+            let writes : op.writes ≡ Some x = ((one_either plan.kernel c.has.presence p (in_kernel plan accepted o.0 p at_p)).0 x of).0 in
             let seen : seen_at now n ≡ Some v = ap (seen_at now) (sym same) ∙ given x writes in
             let longer : length (before (read_at plan n) ++ v ∷ []) ≡ length (before (read_at plan n)) + 1 = length-append (before (read_at plan n)) (v ∷ []) in
             let here : actor.taken x.0 ≡ length (before (read_at plan n)) = ap actor.taken same ∙ on.taken n in
@@ -215,14 +206,14 @@ module _ (plan : PlanView) (accepted : IsAccepted plan) (flows : List (List ℤ)
       taken_of n Right of = taken_same n
       taken_of n DelayRead of = taken_same n
 
-      pub done_behind : IsBehind plan code reference (operated kernel op v actor)
+      pub done_behind : IsBehind plan code reference (operated plan.kernel op v actor)
       done_behind = record {
         from = on.from;
         within = long;
         step = on.step;
         registers = λ n. filled_registers long holds v n op.writes (ap (fills plan) kind ∙ ap target_of_op at) given;
-        memories = λ n. memory_of n (remembers kernel op.kind) refl
-            ∙ ap (last_of (initial_in kernel.equations n)) (sym (behind_is (stored_at plan n) (stored_by kernel n now (Some op)) (done_chosen holds (stored_at plan n) (stored_by kernel n now (Some op)) (ap (stored_at plan n now) kind ∙ ap (stored_by kernel n now) at))));
+        memories = λ n. memory_of n (remembers plan.kernel op.kind) refl
+            ∙ ap (last_of (initial_in plan.kernel.equations n)) (sym (behind_is (stored_at plan n) (stored_by plan.kernel n now (Some op)) (done_chosen holds (stored_at plan n) (stored_by plan.kernel n now (Some op)) (ap (stored_at plan n now) kind ∙ ap (stored_by plan.kernel n now) at))));
         taken = λ n. taken_of n op.kind refl
             ∙ ap (λ (items : List ℤ). length items) (sym (behind_is (read_at plan n) (read_by n now (Some op)) (done_chosen holds (read_at plan n) (read_by n now (Some op)) (ap (read_at plan n now) kind ∙ ap (read_by n now) at))));
       }

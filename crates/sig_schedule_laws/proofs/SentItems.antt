@@ -1,5 +1,5 @@
 -- What a reader waits for, the writer sends at an equal position.
-use Rattle.sig_schedule_laws.proofs.Common.{◌≡◌, ◌<◌, ◌≤◌, ◌+◌, ◌*◌, ◌⊎◌, inl, inr, ℕ, ℤ, pos, true, cond, List, length, ap, sym, subst, ◌∙◌, arith, None, Some, slice_get, Instant, Trace, seen_at, guard_holds, truths_of, sent_on, item_of, CodeView, Instruction, under, unguarded, CarriesFrom, IsFor, StandsAt, does, sends, receives, reports, collects, commits, Operation, operations_in, IsAccepted, PlanView, numbers_of, Step, Do, Send, Receive, Report, Collect, Commit, LinkInfo, plan_operations, ends_within, writer_cluster}
+use Rattle.sig_schedule_laws.proofs.Common.{compiled_operations, compiled_order, ◌≡◌, ◌<◌, ◌≤◌, ◌+◌, ◌*◌, ◌⊎◌, inl, inr, ℕ, ℤ, pos, true, cond, List, length, ap, sym, subst, ◌∙◌, arith, None, Some, slice_get, Instant, Trace, seen_at, guard_holds, truths_of, sent_on, item_of, CodeView, Instruction, under, unguarded, CarriesFrom, IsFor, StandsAt, does, sends, receives, reports, collects, commits, Operation, IsAccepted, PlanView, Step, Do, Send, Receive, Report, Collect, Commit, LinkInfo, plan_operations, ends_within, writer_cluster}
 use Rattle.sig_schedule_laws.proofs.Ends.{IsItem}
 use Rattle.sig_schedule_laws.proofs.EndsOfLinks.{writer_end}
 use Rattle.sig_schedule_laws.proofs.Moved.{chosen_of}
@@ -7,14 +7,8 @@ use Rattle.sig_schedule_laws.proofs.Steps.{DoesStep, instruction_step}
 
 module _ (plan : PlanView) (accepted : IsAccepted plan) (reference : Trace) (instant : Instant) (l : ℕ) (info : LinkInfo) (at_l : slice_get plan.links l ≡ Some info)
     (code : CodeView) (coded : slice_get plan.codes info.writer ≡ Some code) where
-  abbrev operations : List Operation
-  operations = operations_in plan.store.nodes plan.ops
-
-  abbrev order : List ℕ
-  order = numbers_of plan.order
-
   abbrev IsKnown : ℕ → Instruction → Type 0
-  IsKnown k i = IsFor operations order accepted.parts.links accepted.parts.clusters k i
+  IsKnown k i = IsFor (compiled_operations plan) (compiled_order plan) accepted.parts.links accepted.parts.clusters k i
 
   -- a step of the writer that sends, at a position at which the writer takes nothing and that no operation behind another has
   pub record IsSending (position : ℕ) : Type 0 where
@@ -26,7 +20,7 @@ module _ (plan : PlanView) (accepted : IsAccepted plan) (reference : Trace) (ins
     pub sends : chosen_of plan code reference (sent_on plan.links l) instant other ≡ Some item
     pub same : d.i.position ≡ position
     pub alone : (i : Instruction) → IsKnown info.writer i → i.position ≡ position → (m : ℕ) → (i.kind ≡ Receive m) ⊎ (i.kind ≡ Collect m) → ⊥
-    pub behind : (j : ℕ) → j < length order → 2 * j ≤ position → 2 * j < position
+    pub behind : (j : ℕ) → j < length (compiled_order plan) → 2 * j ≤ position → 2 * j < position
 
   at_parts : slice_get accepted.parts.links l ≡ Some info
   at_parts = subst (λ (ls : List LinkInfo). slice_get ls l ≡ Some info) (sym accepted.links) at_l
@@ -35,13 +29,13 @@ module _ (plan : PlanView) (accepted : IsAccepted plan) (reference : Trace) (ins
   chosen_some other item holds gives = ap (λ b. cond b (sent_on plan.links l instant other.kind) None) holds ∙ gives
 
   -- where the writer sends what its operation writes, it takes nothing
-  alone_item : (j number : ℕ) (p : Operation) → StandsAt operations order j number p → p.cluster ≡ info.writer
+  alone_item : (j number : ℕ) (p : Operation) → StandsAt (compiled_operations plan) (compiled_order plan) j number p → p.cluster ≡ info.writer
       → (i : Instruction) → IsKnown info.writer i → i.position ≡ 2 * j + 1 → (m : ℕ) → (i.kind ≡ Receive m) ⊎ (i.kind ≡ Collect m) → ⊥
   alone_item j number p stands own _ (receives j2 number2 link p2 stands2 other from reader) position m kind =
       let same : j2 ≡ j = omega (arith, position) in
-      let e : Some number2 ≡ Some number = sym stands2.place ∙ ap (slice_get order) same ∙ stands.place in
+      let e : Some number2 ≡ Some number = sym stands2.place ∙ ap (slice_get (compiled_order plan)) same ∙ stands.place in
       let one : number2 ≡ number = cc in
-      let f : Some p2 ≡ Some p = sym stands2.is ∙ ap (slice_get operations) one ∙ stands.is in
+      let f : Some p2 ≡ Some p = sym stands2.is ∙ ap (slice_get (compiled_operations plan)) one ∙ stands.is in
       let two : p2 ≡ p = cc in
       other (ap (λ (q : Operation). q.cluster) two ∙ own)
   alone_item j number p stands own _ (collects link found mine there none) position m kind = omega (arith, position)
@@ -56,7 +50,7 @@ module _ (plan : PlanView) (accepted : IsAccepted plan) (reference : Trace) (ins
 
   -- and where it reports neither
   alone_report : info.writer < accepted.parts.clusters
-      → (i : Instruction) → IsKnown info.writer i → i.position ≡ 2 * length operations → (m : ℕ) → (i.kind ≡ Receive m) ⊎ (i.kind ≡ Collect m) → ⊥
+      → (i : Instruction) → IsKnown info.writer i → i.position ≡ 2 * length (compiled_operations plan) → (m : ℕ) → (i.kind ≡ Receive m) ⊎ (i.kind ≡ Collect m) → ⊥
   alone_report lt _ (receives j2 number2 link p2 stands2 other from reader) position m kind = omega (arith, position)
   alone_report lt _ (collects link found mine there none) position m kind = omega (arith, mine, lt)
   alone_report lt _ (does j2 number2 p2 stands2 mine) position m (inl kind) = let e : Do (record { 0 = number2 }) ≡ Receive m = kind in cc
@@ -74,7 +68,7 @@ module _ (plan : PlanView) (accepted : IsAccepted plan) (reference : Trace) (ins
       let end = writer_end plan accepted l info at_l in
       let there = instruction_step plan accepted info.writer code coded (under item.p (Send l) (2 * item.j + 1)) (end.has_item item.j item.number item.p item.x item.stands item.writes item.carries) in
       let from : CarriesFrom accepted.parts.links item.p l = record { info = info; signal = item.x; is = at_parts; writes = item.writes; carries = item.carries } in
-      let own : item.p.cluster ≡ info.writer = writer_cluster plan.kernel accepted.valid plan.clocks.conditions operations (plan_operations plan accepted) accepted.parts accepted.split l item.p from item.number item.stands.is in
+      let own : item.p.cluster ≡ info.writer = writer_cluster plan.kernel accepted.valid plan.clocks.conditions (compiled_operations plan) (plan_operations plan accepted) accepted.parts accepted.split l item.p from item.number item.stands.is in
       let kind : there.1.kind ≡ Send l = there.3.kind ∙ ap (λ (z : Instruction). z.kind) there.4 in
       let guard : item.p.guard (truths_of plan.clocks.conditions (seen_at instant)) ≡ true = sym (ap (λ (z : Instruction). z.guard (truths_of plan.clocks.conditions (seen_at instant))) item.is) ∙ done in
       let holds : guard_holds plan code (seen_at instant) there.1 ≡ true = there.3.guard (seen_at instant) ∙ ap (λ (z : Instruction). z.guard (truths_of plan.clocks.conditions (seen_at instant))) there.4 ∙ guard in
@@ -93,15 +87,15 @@ module _ (plan : PlanView) (accepted : IsAccepted plan) (reference : Trace) (ins
       }
 
   -- and beside a report
-  pub sends_report : (i : Instruction) → (info.signal ≡ None) × (i ≡ unguarded (Collect l) (2 * length operations)) → IsSending i.position
+  pub sends_report : (i : Instruction) → (info.signal ≡ None) × (i ≡ unguarded (Collect l) (2 * length (compiled_operations plan))) → IsSending i.position
   sends_report i report =
       let end = writer_end plan accepted l info at_l in
-      let there = instruction_step plan accepted info.writer code coded (unguarded (Report l) (2 * length operations)) (end.has_report report.0) in
-      let ends = ends_within plan.kernel accepted.valid plan.clocks.conditions operations (plan_operations plan accepted) accepted.parts accepted.split l info at_parts in
+      let there = instruction_step plan accepted info.writer code coded (unguarded (Report l) (2 * length (compiled_operations plan))) (end.has_report report.0) in
+      let ends = ends_within plan.kernel accepted.valid plan.clocks.conditions (compiled_operations plan) (plan_operations plan accepted) accepted.parts accepted.split l info at_parts in
       let kind : there.1.kind ≡ Report l = there.3.kind ∙ ap (λ (z : Instruction). z.kind) there.4 in
       let holds : guard_holds plan code (seen_at instant) there.1 ≡ true = there.3.guard (seen_at instant) ∙ ap (λ (z : Instruction). z.guard (truths_of plan.clocks.conditions (seen_at instant))) there.4 in
-      let position : i.position ≡ 2 * length operations = ap (λ (z : Instruction). z.position) report.1 in
-      let theirs : there.3.i.position ≡ 2 * length operations = ap (λ (z : Instruction). z.position) there.4 in
+      let position : i.position ≡ 2 * length (compiled_operations plan) = ap (λ (z : Instruction). z.position) report.1 in
+      let theirs : there.3.i.position ≡ 2 * length (compiled_operations plan) = ap (λ (z : Instruction). z.position) there.4 in
       let full = accepted.order.all in
       record {
         t = there.0;

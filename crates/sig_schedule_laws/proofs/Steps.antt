@@ -1,5 +1,5 @@
 -- The steps of an actor's code, and what they are for.
-use Rattle.sig_schedule_laws.proofs.Common.{◌≡◌, ◌<◌, ◌*◌, ◌⊎◌, inl, inr, ℕ, Bool, List, length, refl, ap, sym, subst, ◌∙◌, arith, Contains, Some, slice_get, cases_order, OpId, Registers, guard_holds, slot_holds, truths_of, CodeView, Instruction, instructions_of, IsFor, StandsAt, does, sends, receives, reports, collects, commits, Operation, operation_in, operations_in, Precedes, IsAccepted, PlanView, numbers_of, Slot, Step, Do, Send, Receive, Report, Collect, Commit, Op, instruction_for, step_instruction, stands_once, positions_rise, at_contained, contains_at, get_map, got, some_at}
+use Rattle.sig_schedule_laws.proofs.Common.{compiled_operations, compiled_order, ◌≡◌, ◌<◌, ◌*◌, ◌⊎◌, inl, inr, ℕ, Bool, List, length, refl, ap, sym, subst, ◌∙◌, arith, Contains, Some, slice_get, cases_order, OpId, Registers, guard_holds, slot_holds, truths_of, CodeView, Instruction, instructions_of, IsFor, StandsAt, does, sends, receives, reports, collects, commits, Operation, operation_in, Precedes, IsAccepted, PlanView, Slot, Step, Do, Send, Receive, Report, Collect, Commit, Op, instruction_for, step_instruction, stands_once, positions_rise, at_contained, contains_at, get_map, got, some_at}
 use Rattle.sig_schedule_laws.proofs.Ranks.{instruction_once}
 
 do_same : (a b : OpId) → Do a ≡ Do b → a.0 ≡ b.0
@@ -15,30 +15,24 @@ pub record DoesAt (operations : List Operation) (order : List ℕ) (k : ℕ) (i 
   pub guard : i.guard ≡ p.guard
 
 module _ (plan : PlanView) (accepted : IsAccepted plan) where
-  abbrev operations : List Operation
-  operations = operations_in plan.store.nodes plan.ops
-
-  abbrev order : List ℕ
-  order = numbers_of plan.order
-
   -- one operation stands at one place
-  pub places_once : (i j number : ℕ) (p q : Operation) → StandsAt operations order i number p → StandsAt operations order j number q → (i ≡ j) × (p ≡ q)
+  pub places_once : (i j number : ℕ) (p q : Operation) → StandsAt (compiled_operations plan) (compiled_order plan) i number p → StandsAt (compiled_operations plan) (compiled_order plan) j number q → (i ≡ j) × (p ≡ q)
   places_once i j number p q one two =
       let full = accepted.order.all in
-      let here = got order i 0 number one.place in
-      let there = got order j 0 number two.place in
+      let here = got (compiled_order plan) i 0 number one.place in
+      let there = got (compiled_order plan) j 0 number two.place in
       let e : Some p ≡ Some q = sym one.is ∙ two.is in
-      (stands_once (Precedes plan.clocks.conditions operations) (length operations) order accepted.order i j (omega (arith, here.0, full)) (omega (arith, there.0, full)) (here.1 ∙ sym there.1), cc)
+      (stands_once (Precedes plan.clocks.conditions (compiled_operations plan)) (length (compiled_operations plan)) (compiled_order plan) accepted.order i j (omega (arith, here.0, full)) (omega (arith, there.0, full)) (here.1 ∙ sym there.1), cc)
 
   module _ (k : ℕ) (code : CodeView) (coded : slice_get plan.codes k ≡ Some code) where
     abbrev all : List Instruction
-    all = instructions_of operations order accepted.parts k
+    all = instructions_of (compiled_operations plan) (compiled_order plan) accepted.parts k
 
     -- a step does an instruction, under its guard
     pub record DoesStep (number : ℕ) (step : Step) : Type 0 where
       pub i : Instruction
       pub at : slice_get all number ≡ Some i
-      pub known : IsFor operations order accepted.parts.links accepted.parts.clusters k i
+      pub known : IsFor (compiled_operations plan) (compiled_order plan) accepted.parts.links accepted.parts.clusters k i
       pub kind : step.kind ≡ i.kind
       pub position : step.pos ≡ i.position
       pub slot : Slot
@@ -52,7 +46,7 @@ module _ (plan : PlanView) (accepted : IsAccepted plan) where
         record {
           i = found.0;
           at = found.1;
-          known = instruction_for operations order accepted.parts k found.0 (contains_at all number found.0 found.1);
+          known = instruction_for (compiled_operations plan) (compiled_order plan) accepted.parts k found.0 (contains_at all number found.0 found.1);
           kind = done.kind;
           position = done.position;
           slot = done.slot;
@@ -73,7 +67,7 @@ module _ (plan : PlanView) (accepted : IsAccepted plan) where
 
     -- equal instructions are at one place of the code
     pub same_place : (m n : ℕ) (a b : Step) (d : DoesStep m a) (e : DoesStep n b) → d.i ≡ e.i → m ≡ n
-    same_place m n a b d e same = instruction_once operations order accepted.parts k accepted.order.all m n e.i (d.at ∙ ap Some same) e.at
+    same_place m n a b d e same = instruction_once (compiled_operations plan) (compiled_order plan) accepted.parts k accepted.order.all m n e.i (d.at ∙ ap Some same) e.at
 
     -- a step of an earlier position is before
     pub before_by_position : (m n : ℕ) (a b : Step) (d : DoesStep m a) (e : DoesStep n b) → d.i.position < e.i.position → m < n
@@ -84,14 +78,14 @@ module _ (plan : PlanView) (accepted : IsAccepted plan) where
           let one : d.i ≡ e.i = cc in
           absurd (omega (arith, lt, ap (λ (i : Instruction). i.position) one))
       by (inr (inl less)) = less
-      by (inr (inr more)) = absurd (omega (arith, lt, positions_rise operations order accepted.parts k accepted.order.all n m e.i d.i more e.at d.at))
+      by (inr (inr more)) = absurd (omega (arith, lt, positions_rise (compiled_operations plan) (compiled_order plan) accepted.parts k accepted.order.all n m e.i d.i more e.at d.at))
 
     -- ---- a step that does an operation
 
-    pub does_op : (i : Instruction) → IsFor operations order accepted.parts.links accepted.parts.clusters k i → (o : OpId) → i.kind ≡ Do o → DoesAt operations order k i o.0
+    pub does_op : (i : Instruction) → IsFor (compiled_operations plan) (compiled_order plan) accepted.parts.links accepted.parts.clusters k i → (o : OpId) → i.kind ≡ Do o → DoesAt (compiled_operations plan) (compiled_order plan) k i o.0
     does_op _ (does j number p stands own) o is =
         let same : number ≡ o.0 = do_same (record { 0 = number }) o is in
-        record { j = j; p = p; stands = subst (λ n. StandsAt operations order j n p) same stands; own = own; position = refl; guard = refl }
+        record { j = j; p = p; stands = subst (λ n. StandsAt (compiled_operations plan) (compiled_order plan) j n p) same stands; own = own; position = refl; guard = refl }
     does_op _ (sends j number link p stands own from) o is = absurd (let e : Send link ≡ Do o = is in cc)
     does_op _ (receives j number link p stands other from reader) o is = absurd (let e : Receive link ≡ Do o = is in cc)
     does_op _ (reports link info other at none writer) o is = absurd (let e : Report link ≡ Do o = is in cc)
@@ -105,7 +99,7 @@ module _ (plan : PlanView) (accepted : IsAccepted plan) where
         let e = step_does n b at_n in
         let one = does_op d.i d.known o (sym d.kind ∙ kind_a) in
         let two = does_op e.i e.known p (sym e.kind ∙ kind_b) in
-        let place = places_once one.j two.j o.0 one.p two.p one.stands (subst (λ z. StandsAt operations order two.j z two.p) (sym same) two.stands) in
+        let place = places_once one.j two.j o.0 one.p two.p one.stands (subst (λ z. StandsAt (compiled_operations plan) (compiled_order plan) two.j z two.p) (sym same) two.stands) in
         let position : d.i.position ≡ e.i.position = one.position ∙ ap (λ z. 2 * z) place.0 ∙ sym two.position in
         let guard : d.i.guard ≡ e.i.guard = one.guard ∙ ap (λ (q : Operation). q.guard) place.1 ∙ sym two.guard in
         let ids : o ≡ p = (λ t. record { 0 = same t }) in
@@ -114,7 +108,7 @@ module _ (plan : PlanView) (accepted : IsAccepted plan) where
 
     -- the operation that a step does, as the plan has it
     pub op_done : (number : ℕ) (step : Step) (o : OpId) (op : Op) → slice_get code.steps number ≡ Some step → step.kind ≡ Do o → slice_get plan.ops o.0 ≡ Some op
-        → (d : DoesStep number step) × (e : DoesAt operations order k d.i o.0) × (e.p ≡ operation_in plan.store.nodes op)
+        → (d : DoesStep number step) × (e : DoesAt (compiled_operations plan) (compiled_order plan) k d.i o.0) × (e.p ≡ operation_in plan.store.nodes op)
     op_done number step o op at kind there =
         let d = step_does number step at in
         let e = does_op d.i d.known o (sym d.kind ∙ kind) in

@@ -11,76 +11,73 @@ use Rattle.sig_schedule_laws.proofs.TurnsOnReference.{actor_on, coded}
 
 module _ (given : Given) (accepted : IsAccepted given.plan) (fit : AreFlowsFor given.plan.kernel given.flows) (reference : Trace) (core : Core) (on : IsOnReference given reference core)
     (l : ℕ) (info : LinkInfo) (at_l : slice_get given.plan.links l ≡ Some info) (w r : Actor) (at_w : slice_get core.actors info.writer ≡ Some w) (at_r : slice_get core.actors info.reader ≡ Some r) where
-  abbrev plan : PlanView
-  plan = given.plan
-
-  abbrev w_on : IsActorOn plan reference (code_of plan info.writer) w
+  abbrev w_on : IsActorOn given.plan reference (code_of given.plan info.writer) w
   w_on = on.each info.writer w at_w
 
-  abbrev r_on : IsActorOn plan reference (code_of plan info.reader) r
+  abbrev r_on : IsActorOn given.plan reference (code_of given.plan info.reader) r
   r_on = on.each info.reader r at_r
 
   abbrev sent : ℕ
-  sent = length (yielded_before plan (code_of plan info.writer) (sent_on plan.links l) reference w.instant w.step)
+  sent = length (yielded_before given.plan (code_of given.plan info.writer) (sent_on given.plan.links l) reference w.instant w.step)
 
   abbrev taken : ℕ
-  taken = length (yielded_before plan (code_of plan info.reader) (taken_from plan.links l) reference r.instant r.step)
+  taken = length (yielded_before given.plan (code_of given.plan info.reader) (taken_from given.plan.links l) reference r.instant r.step)
 
   pub balance : sent ≡ taken + length (items_on core l)
   balance = ap (λ (xs : List ℤ). length xs) (on.carried l info w r at_l at_w at_r)
-      ∙ length-append (yielded_before plan (code_of plan info.reader) (taken_from plan.links l) reference r.instant r.step) (items_on core l)
+      ∙ length-append (yielded_before given.plan (code_of given.plan info.reader) (taken_from given.plan.links l) reference r.instant r.step) (items_on core l)
 
   -- the reader of a link with an item, on which the writer is to send, is in an earlier instant
-  pub reader_earlier : (step : Step) → slice_get (code_of plan info.writer).steps w.step ≡ Some step → (v : ℤ)
-      → chosen_of plan (code_of plan info.writer) reference (sent_on plan.links l) (instant_at reference w.instant) step ≡ Some v → 1 ≤ length (items_on core l) → r.instant < w.instant
+  pub reader_earlier : (step : Step) → slice_get (code_of given.plan info.writer).steps w.step ≡ Some step → (v : ℤ)
+      → chosen_of given.plan (code_of given.plan info.writer) reference (sent_on given.plan.links l) (instant_at reference w.instant) step ≡ Some v → 1 ≤ length (items_on core l) → r.instant < w.instant
   reader_earlier step at_s v gives some = by (at_most_or w.instant r.instant) where
-    cw : slice_get plan.codes info.writer ≡ Some (code_of plan info.writer)
+    cw : slice_get given.plan.codes info.writer ≡ Some (code_of given.plan info.writer)
     cw = coded given accepted fit reference core on info.writer w at_w
 
-    cr : slice_get plan.codes info.reader ≡ Some (code_of plan info.reader)
+    cr : slice_get given.plan.codes info.reader ≡ Some (code_of given.plan info.reader)
     cr = coded given accepted fit reference core on info.reader r at_r
 
     by : (w.instant ≤ r.instant) ⊎ (r.instant < w.instant) → r.instant < w.instant
     by (inr lt) = lt
     by (inl le) =
-        let theirs = counted plan accepted given.flows fit reference on.is l info at_l info.writer (code_of plan info.writer) cw (sent_on plan.links l) (Send l) (Report l) (writer_end plan accepted l info at_l) w.instant w_on.from w_on.within w.step in
-        let none = none_before plan accepted given.flows fit reference on.is l info at_l info.writer (code_of plan info.writer) cw (sent_on plan.links l) (Send l) (Report l) (writer_end plan accepted l info at_l) w.instant w_on.from w_on.within w.step step at_s v gives in
-        let mine = counted plan accepted given.flows fit reference on.is l info at_l info.reader (code_of plan info.reader) cr (taken_from plan.links l) (Receive l) (Collect l) (reader_end plan accepted l info at_l) r.instant r_on.from r_on.within r.step in
-        let rise = carried_rises plan accepted given.flows fit reference on.is l info at_l w.instant r.instant le in
+        let theirs = counted given.plan accepted given.flows fit reference on.is l info at_l info.writer (code_of given.plan info.writer) cw (sent_on given.plan.links l) (Send l) (Report l) (writer_end given.plan accepted l info at_l) w.instant w_on.from w_on.within w.step in
+        let none = none_before given.plan accepted given.flows fit reference on.is l info at_l info.writer (code_of given.plan info.writer) cw (sent_on given.plan.links l) (Send l) (Report l) (writer_end given.plan accepted l info at_l) w.instant w_on.from w_on.within w.step step at_s v gives in
+        let mine = counted given.plan accepted given.flows fit reference on.is l info at_l info.reader (code_of given.plan info.reader) cr (taken_from given.plan.links l) (Receive l) (Collect l) (reader_end given.plan accepted l info at_l) r.instant r_on.from r_on.within r.step in
+        let rise = carried_rises given.plan accepted given.flows fit reference on.is l info at_l w.instant r.instant le in
         absurd (omega (arith, balance, theirs, none, mine, rise, some))
 
   -- the writer of an empty link, from which the reader is to take, is in an earlier instant, or in this one and not past the step that sends
-  pub writer_no_later : (step : Step) → slice_get (code_of plan info.reader).steps r.step ≡ Some step → (v : ℤ)
-      → chosen_of plan (code_of plan info.reader) reference (taken_from plan.links l) (instant_at reference r.instant) step ≡ Some v → length (items_on core l) ≡ 0
-      → (t : ℕ) (other : Step) (u : ℤ) → slice_get (code_of plan info.writer).steps t ≡ Some other → chosen_of plan (code_of plan info.writer) reference (sent_on plan.links l) (instant_at reference r.instant) other ≡ Some u
+  pub writer_no_later : (step : Step) → slice_get (code_of given.plan info.reader).steps r.step ≡ Some step → (v : ℤ)
+      → chosen_of given.plan (code_of given.plan info.reader) reference (taken_from given.plan.links l) (instant_at reference r.instant) step ≡ Some v → length (items_on core l) ≡ 0
+      → (t : ℕ) (other : Step) (u : ℤ) → slice_get (code_of given.plan info.writer).steps t ≡ Some other → chosen_of given.plan (code_of given.plan info.writer) reference (sent_on given.plan.links l) (instant_at reference r.instant) other ≡ Some u
       → (w.instant < r.instant) ⊎ ((w.instant ≡ r.instant) × (w.step ≤ t))
   writer_no_later step at_s v gives empty t other u at_t sends = by (at_most_or r.instant w.instant) where
-    cw : slice_get plan.codes info.writer ≡ Some (code_of plan info.writer)
+    cw : slice_get given.plan.codes info.writer ≡ Some (code_of given.plan info.writer)
     cw = coded given accepted fit reference core on info.writer w at_w
 
-    cr : slice_get plan.codes info.reader ≡ Some (code_of plan info.reader)
+    cr : slice_get given.plan.codes info.reader ≡ Some (code_of given.plan info.reader)
     cr = coded given accepted fit reference core on info.reader r at_r
 
     by : (r.instant ≤ w.instant) ⊎ (w.instant < r.instant) → (w.instant < r.instant) ⊎ ((w.instant ≡ r.instant) × (w.step ≤ t))
     by (inr lt) = inl lt
     by (inl le) =
-        let mine = counted plan accepted given.flows fit reference on.is l info at_l info.reader (code_of plan info.reader) cr (taken_from plan.links l) (Receive l) (Collect l) (reader_end plan accepted l info at_l) r.instant r_on.from r_on.within r.step in
-        let none = none_before plan accepted given.flows fit reference on.is l info at_l info.reader (code_of plan info.reader) cr (taken_from plan.links l) (Receive l) (Collect l) (reader_end plan accepted l info at_l) r.instant r_on.from r_on.within r.step step at_s v gives in
-        let one = all_given plan accepted given.flows fit reference on.is l info at_l info.reader (code_of plan info.reader) cr (taken_from plan.links l) (Receive l) (Collect l) (reader_end plan accepted l info at_l) r.instant r_on.from r_on.within r.step step at_s v gives in
-        let more = carried_next plan accepted given.flows fit reference on.is l info at_l r.instant r_on.from r_on.within in
-        let theirs = counted plan accepted given.flows fit reference on.is l info at_l info.writer (code_of plan info.writer) cw (sent_on plan.links l) (Send l) (Report l) (writer_end plan accepted l info at_l) w.instant w_on.from w_on.within w.step in
+        let mine = counted given.plan accepted given.flows fit reference on.is l info at_l info.reader (code_of given.plan info.reader) cr (taken_from given.plan.links l) (Receive l) (Collect l) (reader_end given.plan accepted l info at_l) r.instant r_on.from r_on.within r.step in
+        let none = none_before given.plan accepted given.flows fit reference on.is l info at_l info.reader (code_of given.plan info.reader) cr (taken_from given.plan.links l) (Receive l) (Collect l) (reader_end given.plan accepted l info at_l) r.instant r_on.from r_on.within r.step step at_s v gives in
+        let one = all_given given.plan accepted given.flows fit reference on.is l info at_l info.reader (code_of given.plan info.reader) cr (taken_from given.plan.links l) (Receive l) (Collect l) (reader_end given.plan accepted l info at_l) r.instant r_on.from r_on.within r.step step at_s v gives in
+        let more = carried_next given.plan accepted given.flows fit reference on.is l info at_l r.instant r_on.from r_on.within in
+        let theirs = counted given.plan accepted given.flows fit reference on.is l info at_l info.writer (code_of given.plan info.writer) cw (sent_on given.plan.links l) (Send l) (Report l) (writer_end given.plan accepted l info at_l) w.instant w_on.from w_on.within w.step in
         let same : w.instant ≡ r.instant = elim (at_most_or w.instant r.instant) [
           | inl ge ↦ omega (arith, le, ge)
-          | inr gt ↦ absurd (omega (arith, mine, none, one, more, theirs, balance, empty, carried_rises plan accepted given.flows fit reference on.is l info at_l (r.instant + 1) w.instant (omega (arith, gt))))
+          | inr gt ↦ absurd (omega (arith, mine, none, one, more, theirs, balance, empty, carried_rises given.plan accepted given.flows fit reference on.is l info at_l (r.instant + 1) w.instant (omega (arith, gt))))
         ] in
-        let rise = carried_rises plan accepted given.flows fit reference on.is l info at_l r.instant w.instant le in
+        let rise = carried_rises given.plan accepted given.flows fit reference on.is l info at_l r.instant w.instant le in
         inr (
           same,
           elim (at_most_or w.step t) [
             | inl before ↦ before
             | inr behind ↦
-                let given_there = given_behind plan accepted given.flows fit reference on.is l info at_l info.writer (code_of plan info.writer) cw (sent_on plan.links l) (Send l) (Report l) (writer_end plan accepted l info at_l) w.instant w_on.from w_on.within t other at_t u
-                (ap (λ n. chosen_of plan (code_of plan info.writer) reference (sent_on plan.links l) (instant_at reference n) other) same ∙ sends) w.step behind in
+                let given_there = given_behind given.plan accepted given.flows fit reference on.is l info at_l info.writer (code_of given.plan info.writer) cw (sent_on given.plan.links l) (Send l) (Report l) (writer_end given.plan accepted l info at_l) w.instant w_on.from w_on.within t other at_t u
+                (ap (λ n. chosen_of given.plan (code_of given.plan info.writer) reference (sent_on given.plan.links l) (instant_at reference n) other) same ∙ sends) w.step behind in
                 absurd (omega (arith, mine, none, theirs, balance, empty, rise, given_there))
           ],
         )

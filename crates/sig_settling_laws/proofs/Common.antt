@@ -19,3 +19,4 @@ pub use Rattle.sig_schedule_laws.proofs.WaitsForPartner.{reader_earlier, writer_
 pub use Rattle.sig_schedule_laws.proofs.Words.{NotAfter, after_or_before, before_onward, not_after_onward, not_before_itself, reached_not_after, same_places, total_places}
 pub use Rattle.sig_settling_laws.specs.OwnSteps.{Grow, HasTurned, IsBehind, IsOwnStep, Items, LeadBy, Own, Stay, UsesNone, opening_own}
 pub use Rattle.sig_settling_laws.specs.Settled.{ActInOrder, AreBalanced, AreInOrder, AreSettled, HasActed, HasEndedBy, IsLeastFailure, IsNoLater, LookBehind, acts, acts_then_looks, collector_of, is_next, is_such, looks, puts_item, takes_item, times_among}
+pub use Rattle.sig_doing_laws.proofs.CompiledLists.{compiled_operations, compiled_order}

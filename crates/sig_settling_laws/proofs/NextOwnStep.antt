@@ -1,5 +1,5 @@
 -- Where an actor has own steps left, one of the actors can do its next one.
-use Rattle.sig_settling_laws.proofs.Common.{◌≡◌, ◌<◌, ◌≤◌, ◌+◌, ◌⊎◌, inl, inr, ℕ, zero, suc, ℤ, true, false, List, [], ◌∷◌, length, get_or, refl, ap, sym, subst, ◌∙◌, arith, Some, slice_get, cases_lt, length-append, Instant, Trace, seen_at, Place, AreFlowsFor, Actor, code_of, next_place, position_of, Core, Given, items_on, IsActorOn, IsOnReference, instant_at, sent_on, taken_from, AtLimit, Commits, Fails, Goes, Puts, Stopped, Takes, Turn, turn, Instruction, instructions_of, IsFor, Operation, operations_in, IsAccepted, PlanView, numbers_of, Step, StepKind, Do, Send, Receive, Report, Collect, Commit, LinkInfo, positions_rise, reader_end, chosen_of, IsSending, sends_item, sends_report, DoesStep, step_does, coded, reader_earlier, writer_no_later, NotAfter, Grow, HasTurned, LeadBy, Own, AreBalanced, is_next, is_such, takes_item, slice_get_within, some_at}
+use Rattle.sig_settling_laws.proofs.Common.{compiled_operations, compiled_order, ◌≡◌, ◌<◌, ◌≤◌, ◌+◌, ◌⊎◌, inl, inr, ℕ, zero, suc, ℤ, true, false, List, [], ◌∷◌, length, get_or, refl, ap, sym, subst, ◌∙◌, arith, Some, slice_get, cases_lt, length-append, Instant, Trace, seen_at, Place, AreFlowsFor, Actor, code_of, next_place, position_of, Core, Given, items_on, IsActorOn, IsOnReference, instant_at, sent_on, taken_from, AtLimit, Commits, Fails, Goes, Puts, Stopped, Takes, Turn, turn, Instruction, instructions_of, IsFor, IsAccepted, Step, StepKind, Do, Send, Receive, Report, Collect, Commit, LinkInfo, positions_rise, reader_end, chosen_of, IsSending, sends_item, sends_report, DoesStep, step_does, coded, reader_earlier, writer_no_later, NotAfter, Grow, HasTurned, LeadBy, Own, AreBalanced, is_next, is_such, takes_item, slice_get_within, some_at}
 use Rattle.sig_settling_laws.proofs.Amid.{CanHappen, IsAmid, ends_there}
 use Rattle.sig_settling_laws.proofs.Least.{LeastLeft}
 use Rattle.sig_settling_laws.proofs.OrderOfSteps.{rank_of, rank_place, takes_last}
@@ -8,30 +8,27 @@ use Rattle.sig_settling_laws.proofs.Tells.{IsPutting, IsTaking, Tells, turn_tell
 
 module _ (given : Given) (accepted : IsAccepted given.plan) (fit : AreFlowsFor given.plan.kernel given.flows) (reference : Trace) (long : given.limit + 1 ≤ length reference) (room : 1 ≤ given.capacity)
     (final : ℕ → Own) (links : List (List ℤ)) (balanced : AreBalanced given final links) (core : Core) (on : IsOnReference given reference core) (now : ℕ → Own) (more : ℕ → ℕ) (amid : IsAmid given final core now more) where
-  abbrev plan : PlanView
-  plan = given.plan
-
   abbrev place : ℕ → Place
-  place m = next_place (code_of plan m) (now m).actor
+  place m = next_place (code_of given.plan m) (now m).actor
 
   abbrev pub rank : ℕ → Place
-  rank m = rank_of (code_of plan m) (now m).actor
+  rank m = rank_of (code_of given.plan m) (now m).actor
 
-  ends : (l : ℕ) (info : LinkInfo) → slice_get plan.links l ≡ Some info → (info.writer < length plan.codes) × (info.reader < length plan.codes)
+  ends : (l : ℕ) (info : LinkInfo) → slice_get given.plan.links l ≡ Some info → (info.writer < length given.plan.codes) × (info.reader < length given.plan.codes)
   ends l info at_l = ends_there given accepted fit reference long final links balanced core on now more amid l info at_l
 
   pub record CanAct : Type 0 where
     pub k : ℕ
-    pub lt : k < length plan.codes
+    pub lt : k < length given.plan.codes
     pub left : ℕ
     pub is : more k ≡ suc left
-    pub can : CanHappen given core (turn plan given.flows given.limit k (now k).actor)
+    pub can : CanHappen given core (turn given.plan given.flows given.limit k (now k).actor)
     -- no other that has a step left is of a lower rank
-    pub first : (m : ℕ) → m < length plan.codes → ((more m ≡ 0) → ⊥) → NotAfter (rank k) (rank m)
+    pub first : (m : ℕ) → m < length given.plan.codes → ((more m ≡ 0) → ⊥) → NotAfter (rank k) (rank m)
 
   -- ---- an actor that has a step left
 
-  module _ (k : ℕ) (lt : k < length plan.codes) (left : ℕ) (is : more k ≡ suc left) where
+  module _ (k : ℕ) (lt : k < length given.plan.codes) (left : ℕ) (is : more k ≡ suc left) where
     abbrev pub lead : LeadBy given k (suc left) (now k) (final k)
     lead = subst (λ n. LeadBy given k n (now k) (final k)) is (amid.lead k lt)
 
@@ -47,7 +44,7 @@ module _ (given : Given) (accepted : IsAccepted given.plan) (fit : AreFlowsFor g
     abbrev TurnTells : Turn → Type 0
     TurnTells t = Tells given accepted fit reference long core on k actor (amid.actors k lt) t
 
-    tells : TurnTells (turn plan given.flows given.limit k actor)
+    tells : TurnTells (turn given.plan given.flows given.limit k actor)
     tells = turn_tells given accepted fit reference long core on k actor (amid.actors k lt) runs
 
     -- it waits for room on the link l
@@ -81,11 +78,11 @@ module _ (given : Given) (accepted : IsAccepted given.plan) (fit : AreFlowsFor g
       by [] empty = inr (inr (record { l = l; taking = told; item = has.0; grow = has.2.1; empty = empty }))
       by (x ∷ xs) is_there = let count : length (items_on core l) ≡ suc (length xs) = ap (λ (ys : List ℤ). length ys) is_there in inl (omega (arith, count))
 
-    pub sorted : CanHappen given core (turn plan given.flows given.limit k actor) ⊎ (Full ⊎ Starving)
-    sorted = sort (turn plan given.flows given.limit k actor) tells lead.1
+    pub sorted : CanHappen given core (turn given.plan given.flows given.limit k actor) ⊎ (Full ⊎ Starving)
+    sorted = sort (turn given.plan given.flows given.limit k actor) tells lead.1
 
     -- room is never wanting to an actor in a least instant
-    never_full : Full → ((m : ℕ) → m < length plan.codes → ((more m ≡ 0) → ⊥) → actor.instant ≤ (now m).actor.instant) → ⊥
+    never_full : Full → ((m : ℕ) → m < length given.plan.codes → ((more m ≡ 0) → ⊥) → actor.instant ≤ (now m).actor.instant) → ⊥
     never_full full least = by (more r) refl where
       l : ℕ
       l = full.l
@@ -96,13 +93,13 @@ module _ (given : Given) (accepted : IsAccepted given.plan) (fit : AreFlowsFor g
       r : ℕ
       r = p.info.reader
 
-      r_lt : r < length plan.codes
+      r_lt : r < length given.plan.codes
       r_lt = (ends l p.info p.at_l).1
 
       earlier : (now r).actor.instant < actor.instant
       earlier = reader_earlier given accepted fit reference core on l p.info p.at_l actor (now r).actor (ap (slice_get core.actors) p.writer ∙ amid.actors k lt) (amid.actors r r_lt) p.step
-          (subst (λ n. slice_get (code_of plan n).steps actor.step ≡ Some p.step) (sym p.writer) p.at_s) p.item
-          (subst (λ n. chosen_of plan (code_of plan n) reference (sent_on plan.links l) (instant_at reference actor.instant) p.step ≡ Some p.item) (sym p.writer) p.gives)
+          (subst (λ n. slice_get (code_of given.plan n).steps actor.step ≡ Some p.step) (sym p.writer) p.at_s) p.item
+          (subst (λ n. chosen_of given.plan (code_of given.plan n) reference (sent_on given.plan.links l) (instant_at reference actor.instant) p.step ≡ Some p.item) (sym p.writer) p.gives)
           (let there = full.full in omega (arith, there, room))
 
       by : (n : ℕ) → more r ≡ n → ⊥
@@ -119,13 +116,13 @@ module _ (given : Given) (accepted : IsAccepted given.plan) (fit : AreFlowsFor g
           let held = balanced.room l there in
           let more_there = full.full in
           omega (arith, one, two, three, four, five, held, more_there) where
-            link_below : l < length plan.links
-            link_below = slice_get_within plan.links l p.info p.at_l
+            link_below : l < length given.plan.links
+            link_below = slice_get_within given.plan.links l p.info p.at_l
 
   -- ---- an actor of a least rank waits for no item: its writer would be at the same place, and of a lower rank
 
-  module _ (k : ℕ) (lt : k < length plan.codes) (left : ℕ) (is : more k ≡ suc left) (starving : Starving k lt left is)
-      (least : (m : ℕ) → m < length plan.codes → ((more m ≡ 0) → ⊥) → NotAfter (rank k) (rank m)) where
+  module _ (k : ℕ) (lt : k < length given.plan.codes) (left : ℕ) (is : more k ≡ suc left) (starving : Starving k lt left is)
+      (least : (m : ℕ) → m < length given.plan.codes → ((more m ≡ 0) → ⊥) → NotAfter (rank k) (rank m)) where
     abbrev l : ℕ
     l = starving.l
 
@@ -147,72 +144,66 @@ module _ (given : Given) (accepted : IsAccepted given.plan) (fit : AreFlowsFor g
     abbrev instant : Instant
     instant = instant_at reference me.instant
 
-    abbrev operations : List Operation
-    operations = operations_in plan.store.nodes plan.ops
-
-    abbrev order : List ℕ
-    order = numbers_of plan.order
-
-    w_lt : w < length plan.codes
+    w_lt : w < length given.plan.codes
     w_lt = (ends l info p.at_l).0
 
     at_w : slice_get core.actors w ≡ Some writer
     at_w = amid.actors w w_lt
 
-    cw : slice_get plan.codes w ≡ Some (code_of plan w)
+    cw : slice_get given.plan.codes w ≡ Some (code_of given.plan w)
     cw = coded given accepted fit reference core on w writer at_w
 
-    ck : slice_get plan.codes k ≡ Some (code_of plan k)
+    ck : slice_get given.plan.codes k ≡ Some (code_of given.plan k)
     ck = coded given accepted fit reference core on k me (amid.actors k lt)
 
-    d : DoesStep plan accepted k (code_of plan k) ck me.step p.step
-    d = step_does plan accepted k (code_of plan k) ck me.step p.step p.at_s
+    d : DoesStep given.plan accepted k (code_of given.plan k) ck me.step p.step
+    d = step_does given.plan accepted k (code_of given.plan k) ck me.step p.step p.at_s
 
-    known : IsFor operations order accepted.parts.links accepted.parts.clusters info.reader d.i
-    known = subst (λ n. IsFor operations order accepted.parts.links accepted.parts.clusters n d.i) (sym p.reader) d.known
+    known : IsFor (compiled_operations given.plan) (compiled_order given.plan) accepted.parts.links accepted.parts.clusters info.reader d.i
+    known = subst (λ n. IsFor (compiled_operations given.plan) (compiled_order given.plan) accepted.parts.links accepted.parts.clusters n d.i) (sym p.reader) d.known
 
-    sending : IsSending plan accepted reference instant l info p.at_l (code_of plan w) cw d.i.position
+    sending : IsSending given.plan accepted reference instant l info p.at_l (code_of given.plan w) cw d.i.position
     sending = elim p.kind [
       | inl is_receive ↦
-          sends_item plan accepted reference instant l info p.at_l (code_of plan w) cw d.i ((reader_end plan accepted l info p.at_l).items d.i known (sym d.kind ∙ is_receive))
+          sends_item given.plan accepted reference instant l info p.at_l (code_of given.plan w) cw d.i ((reader_end given.plan accepted l info p.at_l).items d.i known (sym d.kind ∙ is_receive))
           (sym (d.guard (seen_at instant)) ∙ p.holds)
       | inr is_collect ↦
-          sends_report plan accepted reference instant l info p.at_l (code_of plan w) cw d.i ((reader_end plan accepted l info p.at_l).reports d.i known (sym d.kind ∙ is_collect))
+          sends_report given.plan accepted reference instant l info p.at_l (code_of given.plan w) cw d.i ((reader_end given.plan accepted l info p.at_l).reports d.i known (sym d.kind ∙ is_collect))
     ]
 
-    my_position : position_of (slice_get (code_of plan k).steps me.step) ≡ d.i.position
+    my_position : position_of (slice_get (code_of given.plan k).steps me.step) ≡ d.i.position
     my_position = ap position_of p.at_s ∙ d.position
 
-    w_on : IsActorOn plan reference (code_of plan w) writer
+    w_on : IsActorOn given.plan reference (code_of given.plan w) writer
     w_on = on.each w writer at_w
 
     writer_no_further : (writer.instant < me.instant) ⊎ ((writer.instant ≡ me.instant) × (writer.step ≤ sending.t))
     writer_no_further = writer_no_later given accepted fit reference core on l info p.at_l writer me at_w (ap (slice_get core.actors) p.reader ∙ amid.actors k lt) p.step
-        (subst (λ n. slice_get (code_of plan n).steps me.step ≡ Some p.step) (sym p.reader) p.at_s) p.item
-        (subst (λ n. chosen_of plan (code_of plan n) reference (taken_from plan.links l) instant p.step ≡ Some p.item) (sym p.reader) p.takes)
+        (subst (λ n. slice_get (code_of given.plan n).steps me.step ≡ Some p.step) (sym p.reader) p.at_s) p.item
+        (subst (λ n. chosen_of given.plan (code_of given.plan n) reference (taken_from given.plan.links l) instant p.step ≡ Some p.item) (sym p.reader) p.takes)
         (ap (λ (xs : List ℤ). length xs) starving.empty) sending.t sending.other sending.item sending.at sending.sends
 
     -- a step of the writer that is not behind the one that sends has no later position
-    position_before : (s : ℕ) (step : Step) → slice_get (code_of plan w).steps s ≡ Some step → s ≤ sending.t → step.pos ≤ d.i.position
+    position_before : (s : ℕ) (step : Step) → slice_get (code_of given.plan w).steps s ≡ Some step → s ≤ sending.t → step.pos ≤ d.i.position
     position_before s step at le =
-        let e = step_does plan accepted w (code_of plan w) cw s step at in
+        let e = step_does given.plan accepted w (code_of given.plan w) cw s step at in
         let there = sending.same in
         let mine = e.position in
         elim (cases_lt s sending.t) [
           | inl before ↦
-              let rise = positions_rise operations order accepted.parts w accepted.order.all s sending.t e.i sending.d.i before e.at sending.d.at in
+              let rise = positions_rise (compiled_operations given.plan) (compiled_order given.plan) accepted.parts w accepted.order.all s sending.t e.i sending.d.i before e.at sending.d.at in
               omega (arith, rise, there, mine)
           | inr ge ↦
               let same : s ≡ sending.t = omega (arith, le, ge) in
-              let f : Some e.i ≡ Some sending.d.i = sym e.at ∙ ap (slice_get (instructions_of operations order accepted.parts w)) same ∙ sending.d.at in
+              let f : Some e.i ≡ Some sending.d.i = sym e.at ∙ ap (slice_get (instructions_of (compiled_operations given.plan) (compiled_order given.plan) accepted.parts w)) same ∙ sending.d.at in
               let one : e.i ≡ sending.d.i = cc in
               omega (arith, mine, there, ap (λ (i : Instruction). i.position) one)
         ]
 
-    w_step : (step : Step) × (slice_get (code_of plan w).steps writer.step ≡ Some step)
-    w_step = some_at (code_of plan w).steps writer.step w_on.step
+    w_step : (step : Step) × (slice_get (code_of given.plan w).steps writer.step ≡ Some step)
+    w_step = some_at (code_of given.plan w).steps writer.step w_on.step
 
-    w_position : position_of (slice_get (code_of plan w).steps writer.step) ≡ w_step.0.pos
+    w_position : position_of (slice_get (code_of given.plan w).steps writer.step) ≡ w_step.0.pos
     w_position = ap position_of w_step.1
 
     not_after : NotAfter (place w) (place k)
@@ -238,7 +229,7 @@ module _ (given : Given) (accepted : IsAccepted given.plan) (fit : AreFlowsFor g
         omega (arith, one, two, three, four, five, six)
 
     back : NotAfter (place k) (place w)
-    back = rank_place (code_of plan k) me (code_of plan w) writer (least w w_lt writer_left)
+    back = rank_place (code_of given.plan k) me (code_of given.plan w) writer (least w w_lt writer_left)
 
     same_instant : writer.instant ≡ me.instant
     same_instant = elim not_after [
@@ -246,7 +237,7 @@ module _ (given : Given) (accepted : IsAccepted given.plan) (fit : AreFlowsFor g
       | inr both ↦ both.0
     ]
 
-    same_position : position_of (slice_get (code_of plan w).steps writer.step) ≡ d.i.position
+    same_position : position_of (slice_get (code_of given.plan w).steps writer.step) ≡ d.i.position
     same_position = elim not_after [
       | inl before ↦ absurd (omega (arith, before, same_instant))
       | inr le ↦ elim back [
@@ -255,14 +246,14 @@ module _ (given : Given) (accepted : IsAccepted given.plan) (fit : AreFlowsFor g
       ]
     ]
 
-    i_take : is_next takes_item (code_of plan k) me ≡ true
+    i_take : is_next takes_item (code_of given.plan k) me ≡ true
     i_take = ap (is_such takes_item) p.at_s ∙ elim p.kind [ inl is_receive ↦ ap takes_item is_receive | inr is_collect ↦ ap takes_item is_collect ]
 
     -- the writer takes nothing at that place
-    w_takes_not : is_next takes_item (code_of plan w) writer ≡ false
+    w_takes_not : is_next takes_item (code_of given.plan w) writer ≡ false
     w_takes_not = ap (is_such takes_item) w_step.1 ∙ by w_step.0.kind refl where
-      e : DoesStep plan accepted w (code_of plan w) cw writer.step w_step.0
-      e = step_does plan accepted w (code_of plan w) cw writer.step w_step.0 w_step.1
+      e : DoesStep given.plan accepted w (code_of given.plan w) cw writer.step w_step.0
+      e = step_does given.plan accepted w (code_of given.plan w) cw writer.step w_step.0 w_step.1
 
       here : e.i.position ≡ d.i.position
       here = let mine = e.position in omega (arith, mine, w_position, same_position)
@@ -276,11 +267,11 @@ module _ (given : Given) (accepted : IsAccepted given.plan) (fit : AreFlowsFor g
       by Commit is = ap takes_item is
 
     pub never_starving : ⊥
-    never_starving = takes_last (code_of plan k) me (code_of plan w) writer (least w w_lt writer_left) same_instant (omega (arith, same_position, my_position)) i_take w_takes_not
+    never_starving = takes_last (code_of given.plan k) me (code_of given.plan w) writer (least w w_lt writer_left) same_instant (omega (arith, same_position, my_position)) i_take w_takes_not
 
   -- ---- of the actors that have a step left one of the least rank acts
 
-  pub some_acts : LeastLeft rank more (length plan.codes) → CanAct
+  pub some_acts : LeastLeft rank more (length given.plan.codes) → CanAct
   some_acts least = elim (sorted least.k least.lt least.left least.is) [
     | inl can ↦ record { k = least.k; lt = least.lt; left = least.left; is = least.is; can = can; first = least.least }
     | inr (inl full) ↦ absurd (never_full least.k least.lt least.left least.is full

@@ -1,5 +1,5 @@
 -- A step of an actor's own does not lower its rank.
-use Rattle.sig_settling_laws.proofs.Common.{◌≡◌, ◌<◌, ◌≤◌, ◌+◌, ◌*◌, ◌⊎◌, inl, inr, ℕ, zero, suc, ℤ, Bool, true, false, cond, List, length, refl, ap, sym, subst, ◌∙◌, arith, None, Option, Some, nat_lt, slice_get, cases_lt, Actor, code_of, ended_at, guard_holds, moved_on, next_place, position_of, Given, Faults, Gives, Outcome, operated, outcome, AtLimit, Commits, Fails, Goes, Puts, Stopped, Takes, Turn, carried, received, turn, turn_at, turn_by, turn_of_op, turn_with, CodeView, Instruction, IsFor, StandsAt, does, sends, receives, reports, collects, commits, Operation, operations_in, IsAccepted, PlanView, numbers_of, Step, StepKind, Do, Send, Receive, Report, Collect, Commit, Op, LinkInfo, positions_rise, moved_cases, DoesStep, step_does, NotAfter, HasTurned, IsOwnStep, LeadBy, Own, is_next, is_such, takes_item, slice_get_within, some_at}
+use Rattle.sig_settling_laws.proofs.Common.{compiled_operations, compiled_order, ◌≡◌, ◌<◌, ◌≤◌, ◌+◌, ◌*◌, ◌⊎◌, inl, inr, ℕ, zero, suc, ℤ, Bool, true, false, cond, List, length, refl, ap, sym, subst, ◌∙◌, arith, None, Option, Some, nat_lt, slice_get, cases_lt, Actor, code_of, ended_at, guard_holds, moved_on, next_place, position_of, Given, Faults, Gives, Outcome, operated, outcome, AtLimit, Commits, Fails, Goes, Puts, Stopped, Takes, Turn, carried, received, turn, turn_at, turn_by, turn_of_op, turn_with, CodeView, Instruction, IsFor, StandsAt, does, sends, receives, reports, collects, commits, Operation, IsAccepted, PlanView, Step, StepKind, Do, Send, Receive, Report, Collect, Commit, Op, LinkInfo, positions_rise, moved_cases, DoesStep, step_does, NotAfter, HasTurned, IsOwnStep, LeadBy, Own, is_next, is_such, takes_item, slice_get_within, some_at}
 use Rattle.sig_settling_laws.proofs.OrderOfSteps.{flag, flag_most, rank_of}
 use Rattle.sig_settling_laws.proofs.OwnItems.{step_runs}
 
@@ -22,48 +22,45 @@ MovesBy a (Puts l item next) = HasMoved a next
 MovesBy a (Takes l next) = (item : ℤ) → HasMoved a (next item)
 
 module _ (given : Given) (k : ℕ) (a : Actor) where
-  abbrev plan : PlanView
-  plan = given.plan
-
   abbrev code : CodeView
-  code = code_of plan k
+  code = code_of given.plan k
 
   abbrev count : ℕ
   count = length code.steps
 
-  op_moves : (op : Op) (r : Outcome) → MovesBy a (turn_with plan code a op r)
-  op_moves op (Gives v) = moved count (operated plan.kernel op v a)
+  op_moves : (op : Op) (r : Outcome) → MovesBy a (turn_with given.plan code a op r)
+  op_moves op (Gives v) = moved count (operated given.plan.kernel op v a)
   op_moves op (Faults cause) = tt
 
-  found_moves : (found : Option Op) → MovesBy a (turn_of_op plan given.flows code a found)
+  found_moves : (found : Option Op) → MovesBy a (turn_of_op given.plan given.flows code a found)
   found_moves None = tt
-  found_moves (Some op) = op_moves op (outcome plan.kernel given.flows a op)
+  found_moves (Some op) = op_moves op (outcome given.plan.kernel given.flows a op)
 
-  kind_moves : (kind : StepKind) → MovesBy a (turn_by plan given.flows code a kind)
-  kind_moves (Do o) = found_moves (slice_get plan.ops o.0)
+  kind_moves : (kind : StepKind) → MovesBy a (turn_by given.plan given.flows code a kind)
+  kind_moves (Do o) = found_moves (slice_get given.plan.ops o.0)
   kind_moves (Send j) = moved count a
   kind_moves (Report j) = moved count a
-  kind_moves (Receive j) = λ item. moved count (received (carried plan.links j) item a)
+  kind_moves (Receive j) = λ item. moved count (received (carried given.plan.links j) item a)
   kind_moves (Collect j) = λ item. moved count a
   kind_moves Commit = moved count a
 
-  guard_moves : (step : Step) (b : Bool) → MovesBy a (cond b (turn_by plan given.flows code a step.kind) (Goes (moved_on count a)))
+  guard_moves : (step : Step) (b : Bool) → MovesBy a (cond b (turn_by given.plan given.flows code a step.kind) (Goes (moved_on count a)))
   guard_moves step true = kind_moves step.kind
   guard_moves step false = moved count a
 
-  step_moves : (step : Option Step) → MovesBy a (turn_at plan given.flows code a step)
+  step_moves : (step : Option Step) → MovesBy a (turn_at given.plan given.flows code a step)
   step_moves None = tt
-  step_moves (Some step) = guard_moves step (guard_holds plan code a.registers step)
+  step_moves (Some step) = guard_moves step (guard_holds given.plan code a.registers step)
 
-  within_moves : (b : Bool) → MovesBy a (cond b AtLimit (turn_at plan given.flows code a (slice_get code.steps a.step)))
+  within_moves : (b : Bool) → MovesBy a (cond b AtLimit (turn_at given.plan given.flows code a (slice_get code.steps a.step)))
   within_moves true = tt
   within_moves false = step_moves (slice_get code.steps a.step)
 
-  ended_moves : (b : Bool) → MovesBy a (cond b Stopped (cond (nat_lt given.limit a.instant) AtLimit (turn_at plan given.flows code a (slice_get code.steps a.step))))
+  ended_moves : (b : Bool) → MovesBy a (cond b Stopped (cond (nat_lt given.limit a.instant) AtLimit (turn_at given.plan given.flows code a (slice_get code.steps a.step))))
   ended_moves true = tt
   ended_moves false = within_moves (nat_lt given.limit a.instant)
 
-  turn_moves : MovesBy a (turn plan given.flows given.limit k a)
+  turn_moves : MovesBy a (turn given.plan given.flows given.limit k a)
   turn_moves = ended_moves a.ended
 
 still_ends : (a b : Own) → b.actor ≡ ended_at a.actor → b.actor.ended ≡ false → ⊥
@@ -132,12 +129,6 @@ flag_onward false c onward = omega arith
 flag_onward true c onward = let one : flag c ≡ 1 = ap flag (onward refl) in omega (arith, one)
 
 module _ (plan : PlanView) (accepted : IsAccepted plan) (k : ℕ) (code : CodeView) (coded : slice_get plan.codes k ≡ Some code) (a b : Actor) (a_in : a.step < length code.steps) (b_in : b.step < length code.steps) where
-  abbrev operations : List Operation
-  operations = operations_in plan.store.nodes plan.ops
-
-  abbrev order : List ℕ
-  order = numbers_of plan.order
-
   a_step : (step : Step) × (slice_get code.steps a.step ≡ Some step)
   a_step = some_at code.steps a.step a_in
 
@@ -164,11 +155,11 @@ module _ (plan : PlanView) (accepted : IsAccepted plan) (k : ℕ) (code : CodeVi
 
   flags_rise : e.i.position ≡ d.i.position → flag (is_next takes_item code a) ≤ flag (is_next takes_item code b)
   flags_rise same = flag_onward (is_next takes_item code a) (is_next takes_item code b)
-      (λ takes. b_takes ∙ take_alike operations order accepted.parts.links accepted.parts.clusters k accepted.order.all d.i d.known (sym a_takes ∙ takes) e.i e.known same)
+      (λ takes. b_takes ∙ take_alike (compiled_operations plan) (compiled_order plan) accepted.parts.links accepted.parts.clusters k accepted.order.all d.i d.known (sym a_takes ∙ takes) e.i e.known same)
 
   further : b.step ≡ a.step + 1 → 2 * (next_place code a).pos + flag (is_next takes_item code a) ≤ 2 * (next_place code b).pos + flag (is_next takes_item code b)
   further next =
-      let rise = positions_rise operations order accepted.parts k accepted.order.all a.step b.step d.i e.i (omega (arith, next)) d.at e.at in
+      let rise = positions_rise (compiled_operations plan) (compiled_order plan) accepted.parts k accepted.order.all a.step b.step d.i e.i (omega (arith, next)) d.at e.at in
       elim (cases_lt d.i.position e.i.position) [
         | inl less ↦ let most = flag_most (is_next takes_item code a) in omega (arith, less, most, a_position, b_position)
         | inr ge ↦ let flags = flags_rise (omega (arith, rise, ge)) in omega (arith, rise, flags, a_position, b_position)

@@ -1,5 +1,5 @@
 -- What each operation of a kernel is, by its equation, and what it does in an image.
-use Rattle.sig_shipped_laws.proofs.Common.{◌≡◌, ◌<◌, ◌≤◌, inl, inr, zero, suc, ℕ, ℤ, List, [], ◌∷◌, length, map, get_or, Option, None, Some, refl, sym, ap, subst, ◌∙◌, arith, All, Contains, slice_get, pos, All-cons, All-nil, EqId, SigId, Signal, Span, signal_id, IsValid, Equation, Form, Fun, Delay, When, WhenConst, Default, Sync, Event, FunOp, Operand, Sig, Const, Kernel, Operation, Presence, equation_id, operations_of, signals_of, stores_of, without, writes_of, writing, OpKind, Read, Compute, Left, Right, DelayRead, Store, each_operation, only, Reads, Writes, does_of, image_op, memory_number, op_with, ImageOp, ImageOpKind, span_of, contains_cons, contains_head, contains_later, contains_none, slice_get-get_or}
+use Rattle.sig_shipped_laws.proofs.Common.{◌≡◌, ◌<◌, ◌≤◌, inl, inr, zero, suc, ℕ, ℤ, List, [], ◌∷◌, length, get_or, Option, None, Some, refl, sym, ap, subst, ◌∙◌, arith, All, Contains, slice_get, pos, All-cons, All-nil, EqId, SigId, Signal, Span, signal_id, Equation, Form, Fun, Delay, When, WhenConst, Default, Sync, Event, FunOp, Operand, Sig, Const, Kernel, Operation, Presence, operations_of, signals_of, stores_of, without, writes_of, writing, OpKind, Read, Compute, Left, Right, DelayRead, Store, each_operation, only, Reads, Writes, does_of, image_op, memory_number, op_with, ImageOp, ImageOpKind, contains_cons, contains_head, contains_later, contains_none, slice_get-get_or}
 use Rattle.sig_file.specs.declared.images.ImageOpKind.TheVariants as does
 
 -- an operation of an equation, with what it writes and reads

@@ -36,3 +36,4 @@ pub use Rattle.sig_file.proofs.PlanNodes.{Shows, visited_right}
 pub use Rattle.sig_file.proofs.PlanOperations.{nodes_right}
 pub use Rattle.sig_file.proofs.Reduced.{reduced}
 pub use Rattle.sig_shipped_laws.specs.Ends.{cause_in, end_in, span_at, span_of}
+pub use Rattle.sig_doing_laws.proofs.CompiledLists.{compiled_operations, compiled_order}

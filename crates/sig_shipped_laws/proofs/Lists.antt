@@ -1,5 +1,5 @@
 -- Lists of which an item was set, and what is left of a list.
-use Rattle.sig_shipped_laws.proofs.Common.{◌≡◌, ◌<◌, ◌+◌, ◌==◌, ℕ, zero, suc, Bool, true, false, cond, List, [], ◌∷◌, take, drop, set, None, Some, refl, sym, ap, ◌∙◌, arith, slice_get, eqb-true, eq-eqb, count_by, sum_by-cons}
+use Rattle.sig_shipped_laws.proofs.Common.{◌≡◌, ◌<◌, ◌+◌, ◌==◌, ℕ, zero, suc, Bool, true, false, cond, List, [], ◌∷◌, take, drop, None, Some, refl, sym, ap, ◌∙◌, arith, slice_get, eqb-true, eq-eqb, count_by, sum_by-cons}
 
 -- by whether two numbers are one
 pub by_equal : (P : Bool → Type 0) (a b : ℕ) → (a ≡ b → P true) → ((a ≡ b → ⊥) → P false) → P (a == b)

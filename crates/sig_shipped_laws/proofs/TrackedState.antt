@@ -1,5 +1,5 @@
 -- An actor of a plan and a state of its image have the same of each signal, delay and input.
-use Rattle.sig_shipped_laws.proofs.Common.{same_Some, ◌≡◌, ◌<◌, ◌≤◌, ◌+◌, ◌==◌, ◌⊎◌, inl, inr, ℕ, zero, suc, ℤ, Bool, true, false, cond, List, [], ◌∷◌, length, map, drop, set, length-set, Option, None, Some, is_some, refl, sym, ap, subst, ◌∙◌, arith, Contains, slice_get, if◌then◌else◌, pos, slice_index_or, slice_set, unwrap_or, cases_order, EqId, SigId, Seen, seen_at, target_of, IsValid, Equation, Form, Delay, Kernel, Actor, with_at, defined_once, State, written, is_delay, memory_number, slice_get_within, got, get_set_other, get_set_same}
+use Rattle.sig_shipped_laws.proofs.Common.{same_Some, ◌≡◌, ◌<◌, ◌+◌, ◌⊎◌, inl, inr, ℕ, ℤ, true, List, [], length, drop, set, length-set, None, Some, sym, ap, ◌∙◌, arith, slice_get, if◌then◌else◌, slice_index_or, slice_set, cases_order, EqId, SigId, seen_at, target_of, IsValid, Equation, Delay, Kernel, Actor, with_at, defined_once, State, written, is_delay, memory_number, slice_get_within, got, get_set_other, get_set_same}
 use Rattle.sig_shipped_laws.proofs.Lists.{by_equal, counts_more}
 
 module _ (kernel : Kernel) (flows : List (List ℤ)) where

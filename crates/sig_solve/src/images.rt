@@ -1,5 +1,5 @@
-//! What is left of the reactions in which a signal is present or absent, or has a truth, where
-//! variables are forgotten.
+//! What is left of the reactions in which a signal is present, or has a truth, where variables are
+//! forgotten.
 
 ghost use Rattle.std.specs.Prelude.{◌≡◌, ◌+◌};
 ghost use Rattle.sig_solve.specs.Prelude.{true, false, Some, IfOk, IsSignal, is_present, status_at, IsStore, Keeps, Share, refusal};
@@ -27,26 +27,6 @@ impl Asked<'_> {
     {
         let present = self.presence(signal);
         self.image(store, present, forgotten)
-    }
-
-    /// The reactions in which a signal is absent, with variables forgotten.
-    pub(crate) fn where_absent(
-        &self,
-        store: &mut Store,
-        signal: u32,
-        forgotten: &[bool],
-    ) -> Result<Ref, DdAnswer>
-        requires asked { IsAskedIn store.old self.now }
-        requires signal { IsSignal self.now.frame.kernel.now signal }
-        ensures store { IsStore store.new }
-        ensures kept { Keeps store.old store.new }
-        ensures value { IfOk result (IsImage store.new.nodes self.now forgotten.now
-            (λ reaction. is_present reaction signal ≡ false)) }
-        ensures share { Share (self.now.system.variables + 2) (variables_of self.now.system)
-            store.old store.new (refusal result) }
-    {
-        let absent = store.negate(self.presence(signal))?;
-        self.image(store, absent, forgotten)
     }
 
     /// The reactions in which a signal is present and true, with variables forgotten.

@@ -1,5 +1,5 @@
 -- The lines of the first outputs.
-use Rattle.sig_values.proofs.Common.{same_Some, ◌≡◌, ◌<◌, ◌≤◌, ◌+◌, ◌-◌, ◌∙◌, ℕ, zero, suc, List, [], ◌∷◌, ◌++◌, length, map, take, drop, append_assoc, refl, sym, ap, subst, arith, Option, None, Some, slice_get, range_with_len, append-nil, Signal, seen_line, seen_lines, Kernel, Registers, line_at, line_where, lines_of, IsAccepted, PlanView, Joins, TookPrefix, TookPrefix-longer, TookPrefix-then}
+use Rattle.sig_values.proofs.Common.{same_Some, ◌≡◌, ◌<◌, ◌≤◌, ◌+◌, ◌-◌, ◌∙◌, ℕ, zero, suc, List, [], ◌∷◌, ◌++◌, length, length-drop, length-take-le, map, take, drop, append_assoc, refl, sym, ap, subst, arith, Option, None, Some, slice_get, range_with_len, append-nil, Seen, Signal, outputs_of, reaction_in, seen_line, seen_lines, Kernel, Registers, line_at, line_where, lines_of, IsAccepted, PlanView, Joins, TookPrefix, TookPrefix-longer, TookPrefix-then}
 
 -- the lines of so many outputs
 abbrev pub lines_upto : Kernel → Registers → ℕ → List ℕ
@@ -77,3 +77,23 @@ interface_fits plan accepted kernel is =
     let interface = accepted.valid.parts.interface in
     let declared = accepted.valid.parts.declared in
     subst InterfaceFits (sym is) (omega (arith, interface, declared))
+
+-- ---- what an output is in a reaction
+
+get_of_range : (f : ℕ → Seen) (a n place : ℕ) → place < n → slice_get (map f (range_with_len a n)) place ≡ Some (f (a + place))
+get_of_range f a zero place below = absurd (omega (arith, below))
+get_of_range f a (suc n) zero below = ap (λ (k : ℕ). Some (f k)) (let e : a ≡ a + 0 = omega arith in e)
+get_of_range f a (suc n) (suc place) below = get_of_range f (a + 1) n place (omega (arith, below)) ∙ ap (λ (k : ℕ). Some (f k)) (let e : a + 1 + place ≡ a + suc place = omega arith in e)
+
+module _ (kernel : Kernel) (fits : InterfaceFits kernel) (place : ℕ) (below : place < length (outputs_of kernel)) where
+  among : place < kernel.outputs
+  among =
+      let behind = length-drop kernel.inputs kernel.signals in
+      let all = length-take-le kernel.outputs (drop kernel.inputs kernel.signals) (omega (arith, behind, fits)) in
+      omega (arith, all, below)
+
+  pub output_is_signal : kernel.inputs + place < length kernel.signals
+  output_is_signal = omega (arith, fits, among)
+
+  pub output_in_reaction : (registers : Registers) → slice_get (reaction_in kernel registers) place ≡ Some (registers (kernel.inputs + place))
+  output_in_reaction registers = get_of_range registers kernel.inputs kernel.outputs place among

@@ -1,6 +1,6 @@
 -- An instant of an image, amid its operations.
 use Rattle.std.specs.Prelude.{◌≡◌, ◌≤◌, ◌+◌}
-use Rattle.sig_exec.specs.Prelude.{ℕ, ℤ, List, [], length, slice_get, take, None, Some, Seen, SigId, seen_at, Does, Ends, HandlesAll, ImageCause, ImageOp, ImageSignal, ImageView, Ref, State, guards_of, Signal, line_of, longest_lines, proposal_of}
+use Rattle.sig_exec.specs.Prelude.{ℕ, ℤ, length, slice_get, take, Some, SigId, seen_at, Does, Ends, HandlesAll, ImageCause, ImageOp, ImageSignal, ImageView, Ref, State, guards_of, Signal, longest_lines, proposal_of}
 use Rattle.sig_exec.specs.declared.putting.Outputs.{Outputs}
 use Rattle.sig_file.specs.Guarded.{IsWrittenBefore}
 
@@ -31,12 +31,7 @@ DoesAt image n s t = (op : ImageOp) → slice_get image.ops n ≡ Some op → Do
 abbrev pub EndsAt : ImageView → ℕ → State → ImageCause → Type 0
 EndsAt image n s cause = (op : ImageOp) → slice_get image.ops n ≡ Some op → Ends op.kind op.at s cause
 
--- ---- lines
-
--- the line of an output, where it was written
-abbrev pub line_of_seen : Signal → Seen → List ℕ
-line_of_seen output None = []
-line_of_seen output (Some v) = line_of output.name output.kind v
+-- ---- outputs
 
 -- a signal of a program has the name and the kind of one of an image
 pub record IsOutput (signal : ImageSignal) (output : Signal) : Type 0 where
