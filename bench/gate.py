@@ -65,7 +65,8 @@ def kind_of(words, folder):
     if words[1] == 'check' and '/rt-edit-' in folder:
         kept = words[words.index('--incremental') + 1] if '--incremental' in words else ''
         return crate, 'seed' if kept.endswith('/seed') else 'edits'
-    if words[1] == 'build':
+    # a program is checked, and then built of what that kept
+    if words[1] in ('build', 'check'):
         return crate, 'tests' if '--test' in words else 'proof'
     return None
 

@@ -50,8 +50,8 @@ from check import stages
 
 HERE = os.path.dirname(os.path.abspath(__file__))
 TOOLS = os.path.join(HERE, "..", "tools")
-sys.path.insert(0, TOOLS)
-import sigcimage
+sys.path.insert(0, os.path.join(TOOLS, "lib"))
+from sigc.image import images
 
 C_KINDS = {"integer": "int64_t", "boolean": "int"}
 EXAMPLES = os.path.join(HERE, "..", "examples")
@@ -401,7 +401,7 @@ def in_c(sigc, folder):
         plain, _, plain_peak = measured([plain_run, name, "flows"], folder, "plain")
         assert read(folder, "own") == read(folder, "plain"), f"{name}: the texts differ"
         put_values(folder, made)
-        image = sigcimage.image_of(subprocess.run([sigc, "build", "program.sig"], cwd=folder, capture_output=True, check=True).stdout)
+        image = images.image_of(subprocess.run([sigc, "build", "program.sig"], cwd=folder, capture_output=True, check=True).stdout)
         signals = [(it.kind, it.name) for it in image.signals[: image.inputs + image.outputs]]
         words = [f"{name}.values" for _, name in signals[: image.inputs]]
         program_alone = embedded(folder, signals[: image.inputs], signals[image.inputs :])

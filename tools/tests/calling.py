@@ -7,8 +7,7 @@ import tempfile
 import threading
 import traceback
 import unittest
-from importlib.machinery import SourceFileLoader
-from importlib.util import module_from_spec, spec_from_loader
+from importlib import import_module
 
 sys.dont_write_bytecode = True
 HERE = os.path.dirname(os.path.realpath(__file__))
@@ -16,8 +15,8 @@ TOOLS = os.path.dirname(HERE)
 TOP = os.path.dirname(TOOLS)
 EXAMPLES = f"{TOP}/examples"
 TUTORIAL = f"{EXAMPLES}/tutorial"
-if TOOLS not in sys.path:
-    sys.path.insert(0, TOOLS)
+if f"{TOOLS}/lib" not in sys.path:
+    sys.path.insert(0, f"{TOOLS}/lib")
 
 
 def built():
@@ -33,12 +32,8 @@ if SIGC:
 
 
 def module_of(script):
-    """A script as a module."""
-    name = script.replace("-", "_")
-    spec = spec_from_loader(name, SourceFileLoader(name, f"{TOOLS}/{script}"))
-    made = module_from_spec(spec)
-    spec.loader.exec_module(made)
-    return made
+    """The module that has what a script does."""
+    return import_module(f"sigc.commands.{script.removeprefix('sigc-')}")
 
 
 def forked(script, *words):

@@ -5,14 +5,10 @@ import subprocess
 
 from calling import HERE
 
-import sigcflows
-import sigcimage
-import sigcranges
-import sigcread
-import sigcsource
-import sigcsteps
-import sigcunit
-import sigcwrite
+from sigc.c import c_files, step_text
+from sigc.image import images, intervals, sources, step_statements
+from sigc.read import syntax
+from sigc.trace import flow_values
 
 STRICT = ["-std=c11", "-Wall", "-Wextra", "-Wpedantic", "-Wconversion", "-Werror"]
 SANITIZED = ["-fsanitize=address,undefined", "-fno-sanitize-recover=all"]
@@ -37,14 +33,14 @@ void run_{p}(void)
 
 def unit_of(image, text, prefix, bounds=None):
     """The unit of an image, as sigc-c makes it; with narrow types where bounds of the integer inputs are given."""
-    read = sigcimage.image_of(image)
-    steps, ranges = sigcsteps.Steps(read), None
+    read = images.image_of(image)
+    steps, ranges = step_statements.Steps(read), None
     if bounds is not None:
         given = {at: bounds for at, it in enumerate(read.signals[: read.inputs]) if it.kind == "integer"} if bounds else {}
-        ranges = sigcranges.Ranges(steps, given)
-        steps = sigcsteps.Steps(read, ranges.safe)
-    step = sigcwrite.written(steps, sigcsource.Source(text, read), prefix, ranges)
-    return sigcunit.Unit(step, "p.sig", sigcread.read(text).processes[0].name.text)
+        ranges = intervals.Ranges(steps, given)
+        steps = step_statements.Steps(read, ranges.safe)
+    step = step_text.written(steps, sources.Source(text, read), prefix, ranges)
+    return c_files.Unit(step, "p.sig", syntax.read(text).processes[0].name.text)
 
 
 def adapter(unit):
@@ -66,7 +62,7 @@ def adapter(unit):
 
 def values_of(text, unit):
     """The values of a flow file as numbers, for many.c."""
-    flows = sigcflows.read_flows(text, [it.name for it in unit.inputs()])
+    flows = flow_values.read_flows(text, [it.name for it in unit.inputs()])
     number = {"true": "1", "false": "0"}
     rows = [[number.get(value, value) for value in flows[it.name]] for it in unit.inputs()]
     return " ".join([str(len(rows)), *(f"{len(row)} {' '.join(row)}" for row in rows)])

@@ -3,14 +3,13 @@ import os
 import subprocess
 import sys
 import unittest
-from importlib.machinery import SourceFileLoader
-from importlib.util import module_from_spec, spec_from_loader
+from importlib import import_module
 
 sys.dont_write_bytecode = True
 TOOLS = os.path.dirname(os.path.dirname(os.path.realpath(__file__)))
 TOP = os.path.dirname(TOOLS)
 EXAMPLES = f"{TOP}/examples"
-sys.path.insert(0, TOOLS)
+sys.path.insert(0, f"{TOOLS}/lib")
 
 
 def program():
@@ -30,12 +29,8 @@ NEEDS_SIGC = only_with(program(), "no program sigc is built: the tests that ask 
 
 
 def module_of(script):
-    """A script as a module."""
-    name = script.replace("-", "_")
-    spec = spec_from_loader(name, SourceFileLoader(name, f"{TOOLS}/{script}"))
-    made = module_from_spec(spec)
-    spec.loader.exec_module(made)
-    return made
+    """The module that has what a script does."""
+    return import_module(f"sigc.commands.{script.removeprefix('sigc-')}")
 
 
 def ran(script, *words, given=b"", env=None, cwd=None):

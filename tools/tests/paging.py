@@ -74,7 +74,7 @@ def spread(data, packed, values, count):
 
 def asked(script, *values):
     """What a script that stands behind those of the page writes as JSON, under Node."""
-    text = "".join(text_of(f"{TOOLS}/view/{it}") for it in PURE)
+    text = "".join(text_of(f"{TOOLS}/lib/sigc/view/page/{it}") for it in PURE)
     given = "".join(f"const given{at} = {json.dumps(it)};\n" for at, it in enumerate(values))
     whole = f"{text}\n{given}(async () => {{ const answer = await (async () => {{ {script} }})(); console.log(JSON.stringify(answer)); }})();"
     done = subprocess.run([NODE, "-"], input=whole, capture_output=True, text=True, encoding="latin-1")

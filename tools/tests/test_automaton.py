@@ -6,9 +6,9 @@ from concurrent.futures import ThreadPoolExecutor
 
 from calling import module_of, needs_sigc, sigc, written
 
-import sigccall
-import sigclib
-import sigctrace
+from sigc.call import running
+from sigc.read import lexer
+from sigc.trace import traces
 
 automaton = module_of("sigc-automaton")
 DRAWN = 100
@@ -116,9 +116,9 @@ def word(value):
 def fault_of(seed):
     """What is wrong with the run of the table of a seed, or nothing."""
     drawn = Drawn(seed)
-    with tempfile.TemporaryDirectory() as room, sigccall.Files() as files:
+    with tempfile.TemporaryDirectory() as room, running.Files() as files:
         program = "\n".join(automaton.process_of(automaton.Automaton(drawn.table()))) + "\n"
-        run = sigctrace.Run(files, written(room, "p.sig", program), written(room, "p.flows", drawn.flows()))
+        run = traces.Run(files, written(room, "p.sig", program), written(room, "p.flows", drawn.flows()))
         for number, (got, wanted) in enumerate(zip(run, drawn.said(), strict=True), 1):
             shown = {name: got.get(name, "") for name in wanted}
             if shown != {name: word(it) for name, it in wanted.items()}:
@@ -163,7 +163,7 @@ class Tables(unittest.TestCase):
         ]:
             with self.subTest(told):
                 self.assertIn(change[0], VALVE)
-                with self.assertRaises(sigclib.Unreadable) as found:
+                with self.assertRaises(lexer.Unreadable) as found:
                     automaton.Automaton(VALVE.replace(*change))
                 self.assertEqual(str(found.exception), told)
 

@@ -11,13 +11,8 @@ from helping import only_with
 from programs import Program
 
 import compiled
-import sigcimage
-import sigcnames
-import sigcsource
-import sigcsteps
-import sigcunit
-import sigcvalues
-import sigcwrite
+from sigc.c import c_files, c_names, expressions, step_text
+from sigc.image import sources
 
 needs_gcc = only_with(shutil.which("gcc"), "gcc is not installed: the tests of sigc-c that compile are left out")
 needs_clang = only_with(shutil.which("clang"), "clang is not installed: the test of sigc-c with it is left out")
@@ -144,7 +139,7 @@ class Runs(unittest.TestCase):
         self.assertEqual(Compared(rows.rows[-6:]).differences(f"{self.room}/narrow", bounds=(-20, 20), **how), [])
 
     def test_no_builtins_of_a_compiler(self):
-        with mock.patch.dict(sigcunit.HELPERS, {name: (result, test, "") for name, (result, test, _) in sigcunit.HELPERS.items()}):
+        with mock.patch.dict(c_files.HELPERS, {name: (result, test, "") for name, (result, test, _) in c_files.HELPERS.items()}):
             self.assertEqual(Compared(special()).differences(self.room), [])
 
     def test_examples(self):
@@ -160,18 +155,18 @@ class Runs(unittest.TestCase):
 
 # Faults planted in the writer: what stands there, and what stands there then.
 FAULTS = {
-    "a comparison takes equals": (sigcvalues, "compared", lambda found: lambda name, a, b: found({"Lt": "Le", "Ge": "Gt"}.get(name, name), a, b)),
-    "a negation is lost": (sigcvalues, "negation", lambda found: lambda it: it),
-    "a conjunction is its first part": (sigcvalues, "conjunction", lambda found: lambda parts: found(parts[:1])),
-    "a memory begins with another value": (sigcwrite, "first_value", lambda found: lambda memory: str(1 - memory.init)),
-    "a memory is not set": (sigcwrite.Step, "store", lambda found: lambda self, it: None),
-    "two cases have each other's values": (sigcwrite.Step, "chosen", lambda found: lambda self, *words: turned(found(self, *words))),
-    "a guard is not asked": (sigcwrite.Step, "enter", lambda found: lambda self, guard: None),
-    "a place is one column off": (sigcsource.Source, "place", lambda found: lambda self, it: (it.line, it.column + 1)),
-    "the quotient of the least integer and -1 is not looked at": (sigcwrite.Step, "fail", lambda found: lambda self, test, what, it: None if what == sigcwrite.OVERFLOW and it.fields[1] == "Div" else found(self, test, what, it)),
-    "outputs come in another order": (sigcwrite.Step, "used", lambda found: lambda self: (self.outputs.reverse(), found(self))[1]),
-    "an overflow is not told": (sigcwrite.Step, "fail", lambda found: lambda self, test, what, it: None if what == sigcwrite.OVERFLOW and it.fields[1] == "Sub" else found(self, test, what, it)),
-    "a memory is set before what may fail": (sigcwrite.Step, "write", lambda found: hasty),
+    "a comparison takes equals": (expressions, "compared", lambda found: lambda name, a, b: found({"Lt": "Le", "Ge": "Gt"}.get(name, name), a, b)),
+    "a negation is lost": (expressions, "negation", lambda found: lambda it: it),
+    "a conjunction is its first part": (expressions, "conjunction", lambda found: lambda parts: found(parts[:1])),
+    "a memory begins with another value": (step_text, "first_value", lambda found: lambda memory: str(1 - memory.init)),
+    "a memory is not set": (step_text.Step, "store", lambda found: lambda self, it: None),
+    "two cases have each other's values": (step_text.Step, "chosen", lambda found: lambda self, *words: turned(found(self, *words))),
+    "a guard is not asked": (step_text.Step, "enter", lambda found: lambda self, guard: None),
+    "a place is one column off": (sources.Source, "place", lambda found: lambda self, it: (it.line, it.column + 1)),
+    "the quotient of the least integer and -1 is not looked at": (step_text.Step, "fail", lambda found: lambda self, test, what, it: None if what == step_text.OVERFLOW and it.fields[1] == "Div" else found(self, test, what, it)),
+    "outputs come in another order": (step_text.Step, "used", lambda found: lambda self: (self.outputs.reverse(), found(self))[1]),
+    "an overflow is not told": (step_text.Step, "fail", lambda found: lambda self, test, what, it: None if what == step_text.OVERFLOW and it.fields[1] == "Sub" else found(self, test, what, it)),
+    "a memory is set before what may fail": (step_text.Step, "write", lambda found: hasty),
 }
 
 
@@ -388,9 +383,9 @@ class Words(unittest.TestCase):
                 self.assertEqual({it: os.stat(f"{room}/c/{it}").st_mtime_ns for it in os.listdir(f"{room}/c")}, before)
 
     def test_names(self):
-        names = sigcnames.Names("P")
+        names = c_names.Names("P")
         self.assertEqual([names.fresh(it) for it in ("A", "A", "COUNT#1.N", "int", "P_step", "INT64_MAX", "x_t", "state")], ["A", "A_", "COUNT_1_N", "int_", "own_P_step", "INT64_MAX_", "x_t_", "state_"])
-        self.assertEqual([sigcnames.stem(it) for it in ("SUM", "main", "STRING")], ["SUM", "main_process", "STRING_process"])
+        self.assertEqual([c_names.stem(it) for it in ("SUM", "main", "STRING")], ["SUM", "main_process", "STRING_process"])
 
 
 if __name__ == "__main__":

@@ -6,15 +6,9 @@ import unittest.mock
 
 from helping import NEEDS_SIGC, TOP, module_of, program, ran
 
-import sigcedit
-import sigcfiles
-import sigchints
-import sigclint
-import sigcmore
-import sigcnear
-import sigcread
-import sigcrun
-import sigcwords
+from sigc.call import command_words, compiler
+from sigc.hints import file_lines, further, gathered, near_words, warnings
+from sigc.read import editing, syntax
 
 HEAD = "process P = (? integer A ! integer Y)\n"
 TRUTHS = "process P = (? integer A ! boolean Y)\n"
@@ -88,7 +82,7 @@ MISTAKES = {
 
 class Hints(unittest.TestCase):
     def hint(self, text, line, col, said):
-        return sigchints.hint_of(text, sigcread.read(text), sigcrun.Refusal(line, col, said))
+        return gathered.hint_of(text, syntax.read(text), compiler.Refusal(line, col, said))
 
     def test_a_name_of_the_process_around(self):
         text = HEAD + "(| Y := Q(A) |)\nwhere process Q = (? integer X ! integer Z) Z := X + A; end;\n"
@@ -108,8 +102,8 @@ class Hints(unittest.TestCase):
         self.assertEqual(lines[1:], ["the `(` at 2:9 wants `)`", "the `(|` at 2:1 wants `|)`"])
 
     def test_near_words(self):
-        for word, words, meant in [("chek", sigcwords.COMMANDS, "check"), ("level", ["LEVEL"], "LEVEL"), ("A", ["B", "C"], ""), ("proces", ["process"], "process"), ("GO", ["G0", "H"], "G0")]:
-            self.assertEqual(sigcnear.near(word, list(words)), meant)
+        for word, words, meant in [("chek", command_words.COMMANDS, "check"), ("level", ["LEVEL"], "LEVEL"), ("A", ["B", "C"], ""), ("proces", ["process"], "process"), ("GO", ["G0", "H"], "G0")]:
+            self.assertEqual(near_words.near(word, list(words)), meant)
 
 
 class Words(unittest.TestCase):
@@ -129,15 +123,15 @@ class Words(unittest.TestCase):
             (["check", "--pace", "p", "--pace"], "--pace stands twice"),
             ([], "a command is wanted: check, tree, code, print, judge, run, play, build, exec, load"),
         ]:
-            self.assertIn(wanted, " ".join(sigcwords.words_hint(words)))
+            self.assertIn(wanted, " ".join(command_words.words_hint(words)))
 
     def test_the_commands_of_the_documents(self):
         with open(f"{TOP}/docs/formats.md", encoding="utf-8") as it:
             text = it.read()
-        for name in sigcwords.COMMANDS:
-            self.assertIn(f"    {sigcwords.usage(name)}\n", text)
-            self.assertIn(sigcwords.usage(name), sigcwords.help_text())
-        for name, it in sigcwords.OPTIONS.items():
+        for name in command_words.COMMANDS:
+            self.assertIn(f"    {command_words.usage(name)}\n", text)
+            self.assertIn(command_words.usage(name), command_words.help_text())
+        for name, it in command_words.OPTIONS.items():
             row = next(line for line in text.split("\n") if line.startswith(f"| `{name} "))
             self.assertEqual([cell.strip().replace(",", "") for cell in row.strip("|").split("|")][2:], [str(it.least), str(it.most), str(it.usual)])
 
@@ -146,7 +140,7 @@ class Files(unittest.TestCase):
     SIGNALS = {"A": "integer", "B": "boolean", "E": "event"}
 
     def said(self, sort, said, text, line, col=1):
-        return " ".join(sigcfiles.hint_of_file(sort, said, text, line, col, self.SIGNALS))
+        return " ".join(file_lines.hint_of_file(sort, said, text, line, col, self.SIGNALS))
 
     def test_flows(self):
         for text, said, line, col, wanted in [
@@ -189,7 +183,7 @@ class Files(unittest.TestCase):
 
 class Lint(unittest.TestCase):
     def warned(self, text):
-        return [(it.line, it.text) for it in sigclint.warnings_of(sigcread.read(text))]
+        return [(it.line, it.text) for it in warnings.warnings_of(syntax.read(text))]
 
     def test_what_is_warned_of(self):
         text = "process L = (? integer A; boolean B ! integer Y, S)\n(| Y := (A when (A < 10)) default (1 when (A < 10))\n | S := A + (A when B)\n | U := U $ init 0\n | A ^= when (S > 0)\n |)\nwhere integer U;\n process Q = (? integer X ! integer W) W := W $ init 0;\nend;\n"
@@ -215,45 +209,45 @@ class Lint(unittest.TestCase):
         self.assertEqual(self.warned("process P = (? integer A; boolean B ! integer Y)\n(| Y := (A when B) default (Z + 1)\n | Z := Y $ init 0\n | A ^= B ^= Z\n |)\nwhere integer Z; end;\n"), [])
 
     def test_empty_flows(self):
-        reader = sigcread.read("process P = (? integer A, B ! integer Y) Y := A + B;")
-        self.assertEqual([it.col for it in sigclint.empty_flows(reader, "A 1\nB\n")], [27])
+        reader = syntax.read("process P = (? integer A, B ! integer Y) Y := A + B;")
+        self.assertEqual([it.col for it in warnings.empty_flows(reader, "A 1\nB\n")], [27])
 
 
 @NEEDS_SIGC
 class OverTheProgram(unittest.TestCase):
     @classmethod
     def setUpClass(cls):
-        cls.sigc = sigcrun.Sigc(program())
+        cls.sigc = compiler.Sigc(program())
         cls.caret = module_of("sigc-caret")
 
     def test_beginners_mistakes_lead_to_their_mends(self):
         for text, (entry, mended) in MISTAKES.items():
             with self.subTest(text):
-                reader, refusal = sigcread.read(text), self.sigc.check(text)
-                hint = sigchints.hint_of(text, reader, refusal)
+                reader, refusal = syntax.read(text), self.sigc.check(text)
+                hint = gathered.hint_of(text, reader, refusal)
                 self.assertEqual(hint.entry or self.caret.entry_of(refusal.text), entry)
                 self.assertTrue(self.caret.explained(entry), entry)
                 self.assertTrue(hint.lines)
                 if mended:
-                    self.assertIn(mended, sigcedit.applied(text, hint.edits))
+                    self.assertIn(mended, editing.applied(text, hint.edits))
 
     def test_the_reader_stops_where_sigc_does(self):
         for text in MISTAKES:
             refusal = self.sigc.check(text)
             if refusal.text == "syntax":
-                fault = sigcread.read(text).faults[0].found
+                fault = syntax.read(text).faults[0].found
                 self.assertEqual((fault.line, fault.col), refusal[:2], text)
 
     def test_several_refusals(self):
         text = "process P = (? integer A; boolean B ! integer Y, Z, W)\n(| Y = A + 1\n | Z := if B then A\n | W := A + q\n | V := A + B\n |)\nwhere integer V, U; end;\n"
         first = self.sigc.check(text)
-        found = sigcmore.later_refusals(self.sigc, sigcread.read(text), first)
+        found = further.later_refusals(self.sigc, syntax.read(text), first)
         self.assertEqual((first.line, first.col), (3, 2))
         self.assertEqual({(it.line, it.col, it.text) for it in found}, {(3, 12, "syntax"), (4, 13, "unknown name q"), (5, 11, "types clash"), (7, 18, "U is not defined")})
 
     def hint(self, text):
         refusal = self.sigc.check(text)
-        return refusal.text, sigchints.hint_of(text, sigcread.read(text), refusal).lines
+        return refusal.text, gathered.hint_of(text, syntax.read(text), refusal).lines
 
     def test_a_call_with_other_left_sides(self):
         called = "\nprocess Q = {integer K} (? boolean B ! integer N; boolean U; event E)\n(| N := N $ init K | U := B | E := when B | N ^= B |);\n"
@@ -291,7 +285,7 @@ class OverTheProgram(unittest.TestCase):
         self.assertIn("say how A and B relate", self.hint("process P = (? integer A, B ! integer Y, Z)\n(| Y := A | Z := B |);\n")[1][0])
 
     def later(self, text):
-        found = sigcmore.later_refusals(self.sigc, sigcread.read(text), self.sigc.check(text))
+        found = further.later_refusals(self.sigc, syntax.read(text), self.sigc.check(text))
         return [(it.line, it.col, it.text) for it in found]
 
     def test_a_mend_that_is_known_is_taken_to_go_on(self):
@@ -304,7 +298,7 @@ class OverTheProgram(unittest.TestCase):
 
     def test_no_refusal_behind_one_of_clocks(self):
         text = "process P = (? integer A, B ! integer Y) Y := A;"
-        self.assertEqual(sigcmore.later_refusals(self.sigc, sigcread.read(text), self.sigc.check(text)), [])
+        self.assertEqual(further.later_refusals(self.sigc, syntax.read(text), self.sigc.check(text)), [])
 
     def shown(self, text, *words, flows=None):
         with tempfile.TemporaryDirectory() as room:
@@ -331,7 +325,7 @@ class OverTheProgram(unittest.TestCase):
         self.assertEqual(status, 1)
         self.assertIn("did you mean `boolean`?\n      mend, accepted by check:\n", shown)
         self.assertIn("      see docs/errors.md#bool-and-int\n", shown)
-        self.assertIn("      | process P = (? boolean A ! boolean Y)\n", shown)
+        self.assertIn("      | + process P = (? boolean A ! boolean Y)\n", shown)
 
     def test_warnings(self):
         status, shown = self.shown("process P = (? integer A ! integer Y)\n(| Y := A | Z := A |)\nwhere integer Z; end;\n", "--lint", "run", "p.sig", "p.flows", flows="")

@@ -6,7 +6,7 @@ import unittest
 
 from calling import EXAMPLES, TUTORIAL, needs_sigc, ran, written
 
-import sigcclocks
+from sigc.clocks import clocks_in_words
 
 SLOW = (
     "process P = (? boolean B; integer A, C ! integer Y; event UP)\n"
@@ -45,7 +45,7 @@ class Sums(unittest.TestCase):
     def test_a_sum_is_the_function_between_its_bounds(self):
         draws = random.Random(5)
         for _ in range(200):
-            diagrams = sigcclocks.Diagrams()
+            diagrams = clocks_in_words.Diagrams()
             guard, care = (self.random_diagram(draws, diagrams, 6) for _ in range(2))
             found, whole = diagrams.products(diagrams.both(guard, care), diagrams.either(guard, diagrams.negated(care)))
             for truths in itertools.product((False, True), repeat=6):

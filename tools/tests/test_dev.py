@@ -15,7 +15,7 @@ class Dev(unittest.TestCase):
     def test_what_stands_above(self):
         found = dev.above("sig_print", dev.listed())
         self.assertLess(found.index("sig_compile_command"), found.index("sig_tool"))
-        self.assertIn("sig_tests_syntax", found)
+        self.assertIn("sig_passes", found)
         self.assertNotIn("sig_parse", found)
         self.assertEqual(dev.above("sigc", dev.listed()), [])
 
@@ -29,9 +29,9 @@ class Dev(unittest.TestCase):
         self.assertEqual(dev.gate_costs.figures_of(page), {"sig_a": [1200, 0, 7], "sig_b": [0, 0, 7]})
 
     def test_where_rows_stand(self):
-        found = dev.rows("sig_print", dev.listed())
-        self.assertEqual([it[:2] for it in found], [("sig_tests_syntax", "print.rt")])
-        self.assertEqual([name for name, _ in found[0][2]], ["OPERATORS", "PROGRAMS"])
+        self.assertEqual(list(dev.rows("sig_print")), [("print.txt", 22)])
+        self.assertEqual([name for name, _ in dev.rows("sig_judge")], ["flow.txt", "judge.txt"])
+        self.assertIn("sig_tests_tool", dev.callers_of("sig_tool", dev.listed()))
 
     def test_every_crate_is_told(self):
         for crate in dev.listed():

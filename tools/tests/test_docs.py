@@ -109,7 +109,7 @@ class Bounds(unittest.TestCase):
         with unittest.mock.patch.dict(self.pages.BOUNDS, {"README.md": 10}):
             self.assertEqual([(it, bound) for it, _, bound in self.pages.long_pages()], [("README.md", 10)])
         with unittest.mock.patch.object(self.pages, "TOGETHER", 10):
-            self.assertEqual([it for it, _, _ in self.pages.long_pages()], ["docs/"])
+            self.assertEqual([it for it, _, _ in self.pages.long_pages()], ["together"])
 
     def test_each_page_has_a_bound(self):
         self.assertEqual([it for it in self.pages.documents() if it not in self.pages.BOUNDS], [])

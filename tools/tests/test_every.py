@@ -14,10 +14,10 @@ from unittest import mock
 
 from calling import EXAMPLES, SIGC, TOOLS, TOP, module_of, needs_sigc, ran, written
 
-import sigcdocument
-import sigclib
-import sigcrun
-import sigcsolver
+from sigc.call import compiler
+from sigc.editor import documents
+from sigc.prove import z3_solver
+from sigc.read import files_read, flat_bodies, lexer
 
 # The words of each script, one way for each file that it reads: FILE is that one, the others are right.
 WAYS = {
@@ -51,7 +51,7 @@ ASKING = ("clocks2dot", "sigc", "sigc-c", "sigc-caret", "sigc-run", "sigc-table"
 RUNNING = {"sigc-trace": (), "trace2vcd": (), "sigc-run": ("--workers", "0"), "sigc-table": ("rows",)}
 LONG = "process LONG = (? event T ! integer N)\n(| N := (N $ init 0) + 1 | N ^= T |);\n"
 SLEEPING = "#!/bin/sh\ntouch {0}/begun\nexec sleep 20\n"
-PROGRAMS = [sigclib.read_text(f"{EXAMPLES}/{it}") for it in sorted(os.listdir(EXAMPLES)) if it.endswith(".sig")]
+PROGRAMS = [files_read.read_text(f"{EXAMPLES}/{it}") for it in sorted(os.listdir(EXAMPLES)) if it.endswith(".sig")]
 PROGRAMS += [
     'process P = (? ! integer A; event B) pragmas RunOn {A} "1" end pragmas (A, B) := Q{1, -2}(A + 1, (B))'
     "where process Q = {integer U, V} (? integer X, Y ! integer Z init 2; event W) (| Z := X $ | W := when (X < U) | (| |) |); end;"
@@ -61,7 +61,7 @@ PROGRAMS += [
 
 def setUpModule():
     """No script comes to z3 here; where it is missing, another program stands for it."""
-    if not sigcsolver.path():
+    if not z3_solver.path():
         os.environ["Z3"] = "/bin/true"
 
 
@@ -280,13 +280,13 @@ class Beginnings(unittest.TestCase):
         for text in PROGRAMS:
             for end in range(len(text) + 1):
                 try:
-                    sigclib.FlatBody(text[:end])
-                except sigclib.Unreadable:
+                    flat_bodies.FlatBody(text[:end])
+                except lexer.Unreadable:
                     continue
 
     @needs_sigc
     def test_what_is_shown_and_told(self):
-        sigc, draws, caret = sigcrun.Sigc(SIGC), random.Random(5), module_of("sigc-caret")
+        sigc, draws, caret = compiler.Sigc(SIGC), random.Random(5), module_of("sigc-caret")
         with tempfile.TemporaryDirectory() as room:
             for text in PROGRAMS:
                 for end in draws.sample(range(len(text) + 1), 4):
@@ -296,7 +296,7 @@ class Beginnings(unittest.TestCase):
                         shown.sigc = sigc
                         said = sigc.call("check", path).err
                         self.assertIn("error: ", shown.line(said.rstrip("\n"), ["check", path]) if said else "error: ")
-                        self.assertEqual(bool(said), bool(sigcdocument.Document("file:///p.sig", text[:end], sigc).refusals()))
+                        self.assertEqual(bool(said), bool(documents.Document("file:///p.sig", text[:end], sigc).refusals()))
                         shown.warned()
 
 

@@ -5,10 +5,10 @@ import unittest
 
 from helping import NEEDS_SIGC, program, ran
 
-import sigcdocument
-import sigcread
-import sigcreactions
-import sigcrun
+from sigc.call import compiler
+from sigc.editor import documents
+from sigc.read import syntax
+from sigc.why import reaction_clauses
 
 LINES, PARTS = 400, 140
 # Processor seconds for a program of 400 lines, sigc's and the script's; about half of each is taken.
@@ -59,12 +59,12 @@ def spent():
 @NEEDS_SIGC
 class LongPrograms(unittest.TestCase):
     def test_the_language_server_marks_them_at_once(self):
-        sigc = sigcrun.Sigc(program())
+        sigc = compiler.Sigc(program())
         for said, (text, guilty) in LONG.items():
             with self.subTest(said):
                 self.assertGreaterEqual(text.count("\n"), LINES - 5)
                 begun, calls = spent(), sigc.calls
-                found = sigcdocument.Document("file:///long.sig", text, sigc).diagnostics()
+                found = documents.Document("file:///long.sig", text, sigc).diagnostics()
                 self.assertLess(spent() - begun, SECONDS)
                 self.assertLess(sigc.calls - calls, 120)
                 self.assertEqual(found[0]["message"].split("\n")[0], said.strip())
@@ -87,8 +87,8 @@ class LongPrograms(unittest.TestCase):
 
 class WhatCannotBe(unittest.TestCase):
     def reactions(self, text):
-        (process,) = sigcread.read(text).processes
-        return sigcreactions.Reactions(process)
+        (process,) = syntax.read(text).processes
+        return reaction_clauses.Reactions(process)
 
     def test_clauses_and_their_equations(self):
         it = self.reactions("process P = (? integer A; boolean B ! integer Y, Z)\n(| Y := A when B | A ^= B | Z := A + Y |);")

@@ -5,7 +5,7 @@ import unittest
 
 from calling import EXAMPLES, SIGC, needs_sigc, ran
 
-import sigcimage
+from sigc.image import images
 
 
 def number(value, width=4):
@@ -13,7 +13,7 @@ def number(value, width=4):
 
 
 def head(counts):
-    return sigcimage.MAGIC + b"".join(map(number, counts))
+    return images.MAGIC + b"".join(map(number, counts))
 
 
 def signal(kind, name):
@@ -38,8 +38,8 @@ PARTS += begun(5, 2, 4, 4) + number(0) + number(2) + begun(1, 0, 5, 5) + number(
 def broken_at(data):
     """The first broken byte, or None."""
     try:
-        sigcimage.image_of(data)
-    except sigcimage.Broken as broken:
+        images.image_of(data)
+    except images.Broken as broken:
         return broken.at
     return None
 
@@ -50,9 +50,9 @@ def changed(data, at, new):
 
 class Reading(unittest.TestCase):
     def test_the_parts(self):
-        image = sigcimage.image_of(PARTS)
+        image = images.image_of(PARTS)
         self.assertEqual([(it.kind, it.guard, it.fields[0]) for it in image.operations[:4]], [("Read", 1, 0), ("DelayRead", 1, 1), ("Const", 2, 2), ("Store", 2, 0)])
-        self.assertEqual(image.operations[4].fields, (1, "Eq", (sigcimage.Operand(None, 1), sigcimage.Operand(0, None))))
+        self.assertEqual(image.operations[4].fields, (1, "Eq", (images.Operand(None, 1), images.Operand(0, None))))
         self.assertEqual((image.memories, image.nodes), ([("boolean", 0)], [(0, 0, 1)]))
 
     def test_files_that_are_cut(self):

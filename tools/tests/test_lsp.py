@@ -12,11 +12,10 @@ from unittest import mock
 
 from helping import EXAMPLES, NEEDS_SIGC, TOOLS, only_with, program, ran
 
-import sigcdocument
-import sigcentries
-import sigcformat
-import sigcrun
-import sigcwhen
+from sigc.call import compiler
+from sigc.editor import documents, soon
+from sigc.hints import entries
+from sigc.read import layout
 
 URI = "file:///p.sig"
 TIMER = "% \u00e9 %\nprocess P = (? event TICK, RESET ! integer N)\n(| N := (0 when RESET) default (ZN + 1)\n | ZN := N $ init 0\n | N ^= TICK\n |)\nwhere integer ZN; end;\n"
@@ -133,9 +132,9 @@ class Conversation(unittest.TestCase):
         messy = TIMER.replace(" := ", ":=").replace("\n |", "  |")
         self.client.open(messy)
         edits = self.client.ask("textDocument/formatting", {"textDocument": {"uri": URI}, "options": {}})["result"]
-        self.assertEqual(changed(messy, edits), sigcformat.formatted(messy))
+        self.assertEqual(changed(messy, edits), layout.formatted(messy))
         self.assertNotEqual(edits, [])
-        for text, has_error in ((sigcformat.formatted(messy), False), ("process P", True)):
+        for text, has_error in ((layout.formatted(messy), False), ("process P", True)):
             self.client.notify("textDocument/didChange", {"textDocument": {"uri": URI}, "contentChanges": [{"text": text}]})
             self.client.read()
             answer = self.client.ask("textDocument/formatting", {"textDocument": {"uri": URI}, "options": {}})
@@ -185,7 +184,7 @@ class Conversation(unittest.TestCase):
         page, _, entry = link["target"].partition("#")
         self.assertEqual(link["range"], spot(1, 27, 32))
         with open(page.removeprefix("file://"), encoding="utf-8") as it:
-            headings = [sigcentries.anchor(line.lstrip("# ").strip()) for line in it if line.startswith("#")]
+            headings = [entries.anchor(line.lstrip("# ").strip()) for line in it if line.startswith("#")]
         self.assertIn(entry, headings)
         self.opened("watch.sig")
         self.assertEqual(self.client.ask("textDocument/documentLink", {"textDocument": {"uri": URI}})["result"], [])
@@ -231,36 +230,36 @@ class Late(unittest.TestCase):
         names = ", ".join(f"B{i}" for i in range(60))
         equal, sum_ = " ^= ".join(f"B{i}" for i in range(60)), " xor ".join(f"B{i}" for i in range(60))
         text = f"process P = (? integer A; boolean {names} ! integer Y)\n(| Y := A when ({sum_})\n | A ^= {equal} |);\n"
-        when = sigcwhen.When(sigcrun.Sigc(program()), text)
+        when = soon.When(compiler.Sigc(program()), text)
         self.assertEqual(when.words("B7"), "at every instant")
         begun = time.monotonic()
         when.words("Y")
         self.assertLess(time.monotonic() - begun, 2)
 
     def test_what_is_not_known(self):
-        sigc = sigcrun.Sigc(program())
-        self.assertEqual(sigcwhen.When(sigc, TIMER).words("N"), "")
-        self.assertEqual(sigcwhen.When(sigc, sigcrun.PROBE).words("NONE"), "")
+        sigc = compiler.Sigc(program())
+        self.assertEqual(soon.When(sigc, TIMER).words("N"), "")
+        self.assertEqual(soon.When(sigc, compiler.PROBE).words("NONE"), "")
 
 
 class Places(unittest.TestCase):
     def test_units(self):
-        document = sigcdocument.Document(URI, "\u00e9\U0001f600A\nB", None)
+        document = documents.Document(URI, "\u00e9\U0001f600A\nB", None)
         self.assertEqual(document.position(6), {"line": 0, "character": 3})
         self.assertEqual(document.offset({"line": 0, "character": 3}), 6)
         self.assertEqual(document.offset({"line": 1, "character": 5}), 9)
 
     def test_classes(self):
-        classes = sigcdocument.classes_of("A B\n  C\n    -\n  D\n")
+        classes = documents.classes_of("A B\n  C\n    -\n  D\n")
         self.assertEqual(classes["A"], (["A", "B"], None))
         self.assertEqual(classes["D"], (["D"], ["A", "B"]))
 
     def test_no_program_is_built_for_an_editor(self):
-        with tempfile.TemporaryDirectory() as room, mock.patch.object(sigcrun, "TOP", room), mock.patch.dict(os.environ, {"SIGC": ""}):
+        with tempfile.TemporaryDirectory() as room, mock.patch.object(compiler, "TOP", room), mock.patch.dict(os.environ, {"SIGC": ""}):
             os.makedirs(f"{room}/crates/sigc/out")
-            self.assertRaises(sigcrun.NoProgram, sigcrun.built_program)
+            self.assertRaises(compiler.NoProgram, compiler.built_program)
             open(f"{room}/crates/sigc/out/unproved", "w", encoding="utf-8").close()
-            self.assertEqual(sigcrun.built_program(), f"{room}/crates/sigc/out/unproved")
+            self.assertEqual(compiler.built_program(), f"{room}/crates/sigc/out/unproved")
 
     def test_the_end_of_the_input(self):
         self.assertEqual(ran("sigc-lsp", given=b"").returncode, 1)

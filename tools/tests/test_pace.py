@@ -8,10 +8,9 @@ from unittest import mock
 
 from calling import EXAMPLES, SIGC, needs_sigc, ran, sigc, written
 
-import sigccall
-import sigcflat
-import sigcpace
-import sigcplan
+from sigc.call import running
+from sigc.clocks import pace_flag, plans
+from sigc.read import expansion
 
 TWO = "process TWO = (? integer U, V ! integer Y, Z)\n(| Y := U + 1 | Z := V + 1 |);\n"
 TWO_PACED = "process TWO = (? integer U, V; boolean pace_1, pace_2 ! integer Y, Z)\n(| Y := U + 1 | Z := V + 1 | pace_1 ^= pace_2 | U ^= when pace_1 | V ^= when pace_2 |);\n"
@@ -120,19 +119,19 @@ class Clocks(unittest.TestCase):
             self.assertIn("no column tells pace_2: give it one", ran("sigc-table", "flows", table, "--program", path, "--pace").stderr)
 
     def test_a_name_that_is_declared_is_no_pace(self):
-        flat = sigcflat.Expansion("process P = (? integer A ! integer pace_3) pace_3 := A;")
-        self.assertEqual(sigcpace.names_in(flat, [["pace_10", "pace_1", "pace_02", "pace_3", "A"]]), ["pace_1", "pace_10"])
+        flat = expansion.Expansion("process P = (? integer A ! integer pace_3) pace_3 := A;")
+        self.assertEqual(pace_flag.names_in(flat, [["pace_10", "pace_1", "pace_02", "pace_3", "A"]]), ["pace_1", "pace_10"])
 
     def test_which_clocks_are_paced(self):
-        flat = sigcflat.Expansion("process P = (? integer A, B ! integer Y) Y := A;")
-        tops = sigcpace.tops_of(flat, sigcplan.Classes(["pace_1 pace_2", "  -", "  Y B", "    A"]))
+        flat = expansion.Expansion("process P = (? integer A, B ! integer Y) Y := A;")
+        tops = pace_flag.tops_of(flat, plans.Classes(["pace_1 pace_2", "  -", "  Y B", "    A"]))
         self.assertEqual(tops, ["B", None])
-        self.assertEqual(sigcpace.paced(["A", "B"], 2, None, None), (["A", "B"], None))
-        self.assertEqual(sigcpace.paced(["A", "B", "C"], 2, None, lambda it, _: "A" not in it), (["B", "C"], None))
-        self.assertEqual(sigcpace.paced(tops, 2, lambda _: ["X", "Z"], lambda _, hidden: hidden == "Z"), (["B", None], "Z"))
+        self.assertEqual(pace_flag.paced(["A", "B"], 2, None, None), (["A", "B"], None))
+        self.assertEqual(pace_flag.paced(["A", "B", "C"], 2, None, lambda it, _: "A" not in it), (["B", "C"], None))
+        self.assertEqual(pace_flag.paced(tops, 2, lambda _: ["X", "Z"], lambda _, hidden: hidden == "Z"), (["B", None], "Z"))
         for found, accepts in ((["B", None, None], True), (tops, False)):
-            with self.assertRaisesRegex(sigccall.Refused, "give its expression a name"):
-                sigcpace.paced(found, len(found), lambda _: ["X"], lambda *_: accepts)
+            with self.assertRaisesRegex(running.Refused, "give its expression a name"):
+                pace_flag.paced(found, len(found), lambda _: ["X"], lambda *_: accepts)
 
 
 @needs_sigc
@@ -144,7 +143,7 @@ class NotBuilt(unittest.TestCase):
             for script, *rest in (["sigc-trace", *words], ["sigc-view", *words], ["trace2vcd", *words], ["sigc-run", *words], ["sigc-table", "rows", *words], ["sigc-table", "check", words[0], table, "--pace"], ["clocks2dot", "--tree", words[0], "--pace"]):
                 with self.subTest(script):
                     done = ran(script, *rest)
-                    self.assertEqual((done.stdout, done.stderr, done.returncode), ("", f"{script}: {sigcpace.NOT_BUILT}\n", 2))
+                    self.assertEqual((done.stdout, done.stderr, done.returncode), ("", f"{script}: {pace_flag.NOT_BUILT}\n", 2))
             self.assertNotIn("--pace", ran("sigc-caret", "check", words[0]).stderr)
             self.assertNotIn("--pace", ran("sigc-why", words[0]).stdout)
 
@@ -154,7 +153,7 @@ class Itself(unittest.TestCase):
     """sigc itself, where it has the flag."""
 
     def test_two_roots(self):
-        if not sigcpace.is_built(SIGC):
+        if not pace_flag.is_built(SIGC):
             self.skipTest("this sigc does not take --pace")
         with tempfile.TemporaryDirectory() as room:
             done = ran("sigc-trace", written(room, "two.sig", TWO), written(room, "two.flows", FLOWS), "--pace")

@@ -5,9 +5,8 @@ import unittest
 
 from calling import EXAMPLES, needs_sigc, ran, written
 
-import sigcdraw
-import sigcpicture
-import sigcplan
+from sigc.clocks import plans
+from sigc.view import drawings, picture_names
 
 CODE = "actor 0\n0 0 read A\n1 1 send 0\n2 2 compute #2:3\n3 3 send 1\n4 4 report 2\nactor 1\n0 1 receive 0\n1 3 receive 1\n2 4 collect 2\n3 5 commit\n"
 CALLS = """process P = (? integer A; boolean B ! integer Y)
@@ -71,11 +70,11 @@ class Codes(unittest.TestCase):
 
 class Drawings(unittest.TestCase):
     def test_arrows_beside_one_another_have_lanes_of_their_own(self):
-        self.assertEqual(sigcdraw.lanes_of([(0, 1), (1, 2), (0, 2), (2, 0), (3, 0)]), {(0, 1): 0, (1, 2): 0, (0, 2): 1, (2, 0): 2, (3, 0): 3})
+        self.assertEqual(drawings.lanes_of([(0, 1), (1, 2), (0, 2), (2, 0), (3, 0)]), {(0, 1): 0, (1, 2): 0, (0, 2): 1, (2, 0): 2, (3, 0): 3})
 
     def test_an_arrow_for_each_two_actors(self):
-        code = sigcplan.Code(CODE.splitlines())
-        drawn = "\n".join(sigcdraw.Drawing(code, None, sigcpicture.Names(None, False)).svg())
+        code = plans.Code(CODE.splitlines())
+        drawn = "\n".join(drawings.Drawing(code, None, picture_names.Names(None, False)).svg())
         self.assertEqual((drawn.count("<rect"), drawn.count("marker-end")), (2, 1))
         self.assertIn(">and 1 of the compiler</text>", drawn)
 

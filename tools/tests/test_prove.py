@@ -12,15 +12,12 @@ from calling import EXAMPLES, TOOLS, needs_sigc, pairs, ran, sigc, written
 from formulas import Runner
 from programs import Program
 
-import sigccall
-import sigcflows
-import sigcimage
-import sigcproperty
-import sigcsolver
-import sigcformulas
-import sigctrace
+from sigc.call import running
+from sigc.image import images
+from sigc.prove import deciding, property_language, smt_formulas, z3_solver
+from sigc.trace import flow_values, traces
 
-needs_z3 = unittest.skipUnless(sigcsolver.path(), "z3 is not installed")
+needs_z3 = unittest.skipUnless(z3_solver.path(), "z3 is not installed")
 DRAWN = int(os.environ.get("PROVE_DRAWN", 60))
 SECONDS = "20"
 
@@ -44,6 +41,11 @@ SWAP = "process P = (? event E ! boolean L, R) (| L := R $ init false | R := L $
 BOUNDED = "process P = (? integer A ! integer M) (| ZM := M $ init 0 | M := (A when A > ZM when A < 1000) default ZM | M ^= A |) where integer ZM; end;\n"
 ASSERTED = "process P = (? event E ! integer N; boolean FINE, BAD) (| N := ((N $ init 0) + 1) modulo 4 | N ^= E | FINE := N < 4 %assert FINE% | BAD := N < 3 |);\n"
 CALLED = CALLS + "%assert LATCH#1.Q%\n"
+HELD = (
+    "process P = (? integer A; boolean B ! integer Y)\n"
+    "(| M := ((A * 1000 + 7) when B) default ZM | ZM := M $ init 0 | N := ((ZM * 3) when B) default ZN | ZN := N $ init 0\n"
+    " | A ^= B ^= M ^= N | Y := ZN * ZN * ZN |) where integer M, ZM, N, ZN; end;\n"
+)
 LATE = "process P = (? integer A ! integer Y) (| Y := 7 / ((A $ init 1) - 1 + 1) |);\n"
 NAMELESS = "process P = (? integer A ! integer Y, Z) (| Y := (A + 1) + 2 | Z := F(A) |) where\n"
 NAMELESS += "process F = (? integer X ! integer Y)\n   (| Y := X * X * X |); end;\n"
@@ -85,10 +87,10 @@ def answers(text):
 
 
 def image_of(path):
-    with sigccall.Call("build", path) as call:
+    with running.Call("build", path) as call:
         data = call.ran.stdout.read()
         _, status = call.ended()
-    return sigcimage.image_of(data) if status == 0 else None
+    return images.image_of(data) if status == 0 else None
 
 
 def run_by_formulas(path, flows, limit):
@@ -96,9 +98,9 @@ def run_by_formulas(path, flows, limit):
     image = image_of(path)
     if image is None:
         return None
-    read = sigcflows.read_flows(sigccall.text_of(flows), [it.name for it in image.signals[: image.inputs]])
-    values = {name: [sigcproperty.value_of(it) for it in words] for name, words in read.items()}
-    return Runner(sigcformulas.Step(image)).run(values, limit)
+    read = flow_values.read_flows(running.text_of(flows), [it.name for it in image.signals[: image.inputs]])
+    values = {name: [property_language.value_of(it) for it in words] for name, words in read.items()}
+    return Runner(smt_formulas.Step(image)).run(values, limit)
 
 
 @needs_sigc
@@ -112,7 +114,7 @@ class FormulasRunAsPrograms(unittest.TestCase):
 
     def test_examples(self):
         for path, flows in pairs(EXAMPLES):
-            if "flows 2" not in sigccall.text_of(flows):
+            if "flows 2" not in running.text_of(flows):
                 self.same(path, flows)
 
     def test_drawn_programs(self):
@@ -187,6 +189,17 @@ class Claims(unittest.TestCase):
             said = ran("sigc-prove", written(folder, "p.sig", NAMELESS), "--faults", "--range", "A=0..9")
             self.assertEqual(said.stdout, "".join(f"proved: no overflow at {it}\n" for it in ("1:53", "1:58 (Y)", "3:14 (F#1)", "3:18 (F#1.Y)")))
 
+    def test_intervals_of_memories(self):
+        """What a memory may be is reckoned from the program, and believed where z3 finds it kept."""
+        with tempfile.TemporaryDirectory() as folder:
+            path = written(folder, "p.sig", HELD)
+            said = ran("sigc-prove", path, "--never-ends", "--range", "A=0..50", "--seconds", "600")
+            self.assertEqual((said.stdout, said.returncode), ("proved: never ends\n", 0))
+            step = smt_formulas.Step(image_of(path))
+            until = time.monotonic() + 300
+            self.assertEqual(deciding.System(step, [], {"A": (0, 50)}, {0: (0, 50007)}).intervals(until), ["(<= 0 m0 50007)"])
+            self.assertEqual(deciding.System(step, [], {"A": (0, 50)}, {0: (0, 50006)}).intervals(until), [])
+
     def test_nothing_is_left(self):
         with tempfile.TemporaryDirectory() as folder:
             said = ran("sigc-prove", written(folder, "p.sig", COUNTER), "--assume", "B and not B", "--never", "B", "--never-ends")
@@ -202,15 +215,15 @@ class Claims(unittest.TestCase):
                     continue
                 path = written(folder, "p.sig", text)
                 image = image_of(path)
-                step = sigcformulas.Step(image)
+                step = smt_formulas.Step(image)
                 claims = [it for it, is_ in zip(zip(words[::2], words[1::2]), wanted.split()) if is_ == "proved" and it[0] == "--always"]
                 flows = "".join(f"{it.name} {' '.join(self.word(draws, it.kind) for _ in range(2000))}\n" for it in image.signals[: image.inputs])
                 self.assertTrue(claims and step.reads)
                 file = written(folder, "p.flows", flows)
-                with sigccall.Files() as files:
-                    instants = [sigcproperty.values_of(it) for it in sigctrace.Run(files, path, file)]
+                with running.Files() as files:
+                    instants = [property_language.values_of(it) for it in traces.Run(files, path, file)]
                 for _, claim in claims:
-                    watched = sigcproperty.Watched(sigcproperty.property_of(claim, {it.name: it.kind for it in image.signals}))
+                    watched = property_language.Watched(property_language.property_of(claim, {it.name: it.kind for it in image.signals}))
                     self.assertNotIn(0, [watched.at(it) for it in instants], (text, claim))
 
     @staticmethod

@@ -7,8 +7,8 @@ import unittest.mock
 
 from calling import EXAMPLES, TUTORIAL, module_of, needs_sigc, pairs, ran, sigc, written
 
-import sigclib
-import sigcmeasure as measure
+from sigc.call import measures
+from sigc.read import files_read
 
 runner, table = module_of("sigc-run"), module_of("sigc-table")
 WATCH = (f"{EXAMPLES}/watch.sig", f"{EXAMPLES}/watch.flows")
@@ -43,12 +43,12 @@ class OneRun(unittest.TestCase):
         self.assertEqual(done.returncode, 0)
 
     def test_a_run_that_writes_another_text_is_told(self):
-        with unittest.mock.patch.object(measure, "run", lambda words, workers, capacity: (1, str(workers))):
-            self.assertRaises(measure.Differing, measure.table_of, ["P", "F"], 2)
+        with unittest.mock.patch.object(measures, "run", lambda words, workers, capacity: (1, str(workers))):
+            self.assertRaises(measures.Differing, measures.table_of, ["P", "F"], 2)
 
     def test_the_table_of_what_workers_gain(self):
-        table = {(capacity, workers): 1 / workers for capacity in measure.CAPACITIES for workers in (1, 2)}
-        self.assertEqual(list(measure.lines_of(table, 0.2, 2)), [
+        table = {(capacity, workers): 1 / workers for capacity in measures.CAPACITIES for workers in (1, 2)}
+        self.assertEqual(list(measures.lines_of(table, 0.2, 2)), [
             "without workers: 200 ms, 2 clusters", "times that, by capacity and workers:", "capacity       1       2",
             "      32    1.00    0.50", "      64    1.00    0.50", "     256    1.00    0.50", "take --workers 2 --capacity 32"])
 
@@ -94,7 +94,7 @@ class Folders(unittest.TestCase):
             shutil.copy(f"{EXAMPLES}/edge.flows", room)
             self.assertEqual(ran("sigc-run", room).stdout.splitlines()[-1], "0 passed, 0 failed, 3 no want")
             self.assertEqual(ran("sigc-run", room, "--update").stdout.splitlines()[-1], "3 written")
-            self.assertEqual(sigclib.read_text(f"{room}/sum.bad.want"), "error: sum.bad.flows:1:7: bad value\n")
+            self.assertEqual(files_read.read_text(f"{room}/sum.bad.want"), "error: sum.bad.flows:1:7: bad value\n")
             self.assertEqual(ran("sigc-run", room).stdout.splitlines()[-1], "3 passed, 0 failed, 0 no want")
             written(room, "edge.want", "RISE true\n")
             done = ran("sigc-run", room)

@@ -5,8 +5,7 @@ import subprocess
 import sys
 import tempfile
 import unittest
-from importlib.machinery import SourceFileLoader
-from importlib.util import module_from_spec, spec_from_loader
+from importlib import import_module
 
 sys.dont_write_bytecode = True
 HERE = os.path.dirname(os.path.realpath(__file__))
@@ -14,15 +13,13 @@ TOOLS = os.path.dirname(HERE)
 TOP = os.path.dirname(TOOLS)
 EXAMPLES = f"{TOP}/examples"
 SCRIPTS = ("sigc-caret", "sigc-equations", "sigc-header")
-sys.path.insert(0, TOOLS)
-import sigclib
+sys.path.insert(0, f"{TOOLS}/lib")
+from sigc.read import files_read, flat_bodies, lexer
 
 
 def module_of(script):
-    spec = spec_from_loader(script.replace("-", "_"), SourceFileLoader(script.replace("-", "_"), f"{TOOLS}/{script}"))
-    made = module_from_spec(spec)
-    spec.loader.exec_module(made)
-    return made
+    """The module that has what a script does."""
+    return import_module(f"sigc.commands.{script.removeprefix('sigc-')}")
 
 
 def ran(script, *words, given="", env=None):
@@ -47,34 +44,34 @@ class EveryScript(unittest.TestCase):
 
 class Programs(unittest.TestCase):
     def test_places_count_bytes(self):
-        tokens = sigclib.tokens_of("% a\nb % X :=\n Y$")
+        tokens = lexer.tokens_of("% a\nb % X :=\n Y$")
         self.assertEqual([(it.text, it.line, it.col) for it in tokens], [("X", 2, 5), (":=", 2, 7), ("Y", 3, 2), ("$", 3, 3), ("", 3, 4)])
 
     def test_the_longest_mark(self):
-        self.assertEqual([it.text for it in sigclib.tokens_of("(||)^^=/=")][:-1], ["(|", "|)", "^", "^=", "/="])
+        self.assertEqual([it.text for it in lexer.tokens_of("(||)^^=/=")][:-1], ["(|", "|)", "^", "^=", "/="])
 
     def test_what_is_no_token(self):
         for text in ("#", "% open", ": A", '"a\n"'):
-            with self.assertRaises(sigclib.Unreadable):
-                list(sigclib.tokens_of(text))
+            with self.assertRaises(lexer.Unreadable):
+                list(lexer.tokens_of(text))
 
     def test_every_example_is_read(self):
         for name in sorted(os.listdir(EXAMPLES)):
             if name.endswith(".sig"):
                 with self.subTest(name):
-                    self.assertTrue(sigclib.FlatBody(sigclib.read_text(f"{EXAMPLES}/{name}")).equations)
+                    self.assertTrue(flat_bodies.FlatBody(files_read.read_text(f"{EXAMPLES}/{name}")).equations)
 
     def test_the_headers_of_the_traces(self):
         for name in sorted(os.listdir(EXAMPLES)):
             program = f"{EXAMPLES}/{name.removesuffix('.trace')}.sig"
             if name.endswith(".trace") and os.path.isfile(program):
                 with self.subTest(name):
-                    header = sigclib.read_text(f"{EXAMPLES}/{name}").split("\n")[0].split()
-                    signals = sigclib.FlatBody(sigclib.read_text(program)).signals
+                    header = files_read.read_text(f"{EXAMPLES}/{name}").split("\n")[0].split()
+                    signals = flat_bodies.FlatBody(files_read.read_text(program)).signals
                     self.assertEqual(sorted(header), sorted(it.name for it in signals))
 
     def test_a_call_inside_a_called_process(self):
-        flat = sigclib.FlatBody(
+        flat = flat_bodies.FlatBody(
             "process P = (? integer A ! integer Y, Z) (| A ^= A ^= A | (Y, Z) := Q{3}(A + 1, A) |);"
             "process Q = {integer K} (? integer U, V ! integer S, T) (| S := W(U) | T := U + K |);"
             "process W = (? integer X ! integer M) M := X * 2;"
@@ -87,8 +84,8 @@ class Programs(unittest.TestCase):
 
     def test_what_is_no_program(self):
         for text in ("", "process", "process P = (? ! ) Y := A", "process P = (? ! integer Y) Y := Q(1);", "process P = (? ! integer Y) Y := P();"):
-            with self.assertRaises(sigclib.Unreadable):
-                sigclib.FlatBody(text)
+            with self.assertRaises(lexer.Unreadable):
+                flat_bodies.FlatBody(text)
 
 
 class Equations(unittest.TestCase):
@@ -168,8 +165,8 @@ class Caret(unittest.TestCase):
         for text in texts.split(";"):
             with self.subTest(text.strip()):
                 self.assertIn(self.caret.entry_of(text.strip()), headings)
-        for name in ("sigcsyntaxhints", "sigcnamehints", "sigcclockhints"):
-            with open(f"{TOOLS}/{name}.py", encoding="utf-8") as it:
+        for name in ("syntax_hints", "name_hints", "clock_hints"):
+            with open(f"{TOOLS}/lib/sigc/hints/{name}.py", encoding="utf-8") as it:
                 entries = re.findall(r'\], "([a-z0-9-]+)"', it.read())
             self.assertTrue(entries)
             self.assertEqual([it for it in entries if it not in headings], [])

@@ -7,11 +7,9 @@ from concurrent.futures import ThreadPoolExecutor
 from calling import EXAMPLES, TUTORIAL, module_of, needs_sigc, pairs, ran, sigc, written
 from programs import Program
 
-import sigccall
-import sigcflat
-import sigcflows
-import sigclib
-import sigctrace
+from sigc.call import running
+from sigc.read import expansion, files_read, flat_bodies, lexer
+from sigc.trace import flow_values, traces
 
 DRAWN = 200
 COUNTER = "process COUNT = (? boolean B; integer A ! integer N)\n(| N := (N $ init 0) + 1 | N ^= B | A ^= when B |);\n"
@@ -30,12 +28,12 @@ def text_of_trace(run):
 
 def fault_of(program, flows):
     """What is wrong with the trace of a run, or nothing; Refused where sigc refuses the program."""
-    words = ["--pace"] if "pace_1 " in sigccall.text_of(flows) else []
-    with sigccall.Files() as files:
-        run = sigctrace.Run(files, program, flows, words)
+    words = ["--pace"] if "pace_1 " in running.text_of(flows) else []
+    with running.Files() as files:
+        run = traces.Run(files, program, flows, words)
         try:
             trace, text = text_of_trace(run)
-        except sigccall.Refused as refusal:
+        except running.Refused as refusal:
             return f"as it is written anew: {refusal.line}"
         verdict = sigc("judge", program, files.written("drawn.trace", trace))
         done = sigc("run", program, flows, "--workers", "0", *words)
@@ -65,7 +63,7 @@ class TracesOfRuns(unittest.TestCase):
             try:
                 fault = fault_of(program, flows)
                 return f"{seed}: {fault}" if fault else ""
-            except sigccall.Refused as refusal:
+            except running.Refused as refusal:
                 self.assertEqual(refusal.status, 1)
                 seed += DRAWN
 
@@ -142,34 +140,34 @@ class Words(unittest.TestCase):
 
 class Flows(unittest.TestCase):
     def test_both_versions(self):
-        self.assertEqual(sigcflows.read_flows("A 1 2\r\n\nB true\nA 3\n", ["A", "B"]), {"A": ["1", "2", "3"], "B": ["true"]})
-        self.assertEqual(sigcflows.read_flows("flows 2\nA 1*2 7\n", ["A"]), {"A": ["1", "1", "7"]})
-        self.assertEqual(sigcflows.read_flows("flows 2\n", ["flows"]), {"flows": ["2"]})
+        self.assertEqual(flow_values.read_flows("A 1 2\r\n\nB true\nA 3\n", ["A", "B"]), {"A": ["1", "2", "3"], "B": ["true"]})
+        self.assertEqual(flow_values.read_flows("flows 2\nA 1*2 7\n", ["A"]), {"A": ["1", "1", "7"]})
+        self.assertEqual(flow_values.read_flows("flows 2\n", ["flows"]), {"flows": ["2"]})
 
     def test_what_is_none(self):
         for text in ("B 1\n", "flows 2\nA 1*x\n"):
-            with self.assertRaises(sigclib.Unreadable):
-                sigcflows.read_flows(text, ["A"])
+            with self.assertRaises(lexer.Unreadable):
+                flow_values.read_flows(text, ["A"])
 
 
 class Expansions(unittest.TestCase):
     def test_the_same_as_the_flat_body(self):
         for name in ("watch", "thermostat", "operators", "balance"):
-            text = sigclib.read_text(f"{EXAMPLES}/{name}.sig")
-            one, other = sigcflat.Expansion(text), sigclib.FlatBody(text)
+            text = files_read.read_text(f"{EXAMPLES}/{name}.sig")
+            one, other = expansion.Expansion(text), flat_bodies.FlatBody(text)
             self.assertEqual([(it.name, it.kind) for it in one.signals], [(it.name, it.kind) for it in other.signals])
-            words = [sigclib.words_of(word.text for word in it.words) for it in one.equations]
+            words = [lexer.words_of(word.text for word in it.words) for it in one.equations]
             self.assertEqual(words, [it.text for it in other.equations])
 
     def test_paths_and_inits(self):
-        flat = sigcflat.Expansion(
+        flat = expansion.Expansion(
             "process P = (? integer A ! integer Y) Y := Q{-3}(A);"
             "process Q = {integer K} (? integer U ! integer S) S := W{K}(U + K);"
             "process W = {integer K} (? integer X ! integer M init K) M := X $;"
         )
         self.assertEqual(flat.path("W#2"), ["Q#1", "W#2"])
         self.assertEqual(["".join(word.text for word in it.init) for it in flat.signals if it.name == "W#2.M"], ["-3"])
-        self.assertIn("W#2.X := Q#1.U + - 3", [sigclib.words_of(word.text for word in it.words) for it in flat.equations])
+        self.assertIn("W#2.X := Q#1.U + - 3", [lexer.words_of(word.text for word in it.words) for it in flat.equations])
 
 
 class Waveforms(unittest.TestCase):
@@ -211,19 +209,19 @@ class Waveforms(unittest.TestCase):
             program = f"{EXAMPLES}/watch.sig"
             done = ran("trace2vcd", program, f"{EXAMPLES}/watch.flows", "-o", f"{room}/w.vcd")
             self.assertEqual((done.stdout, done.stderr, done.returncode), ("", "end: input TICK exhausted after 7 instants\n", 0))
-            drawing, save = sigclib.read_text(f"{room}/w.vcd"), sigclib.read_text(f"{room}/w.gtkw")
+            drawing, save = files_read.read_text(f"{room}/w.vcd"), files_read.read_text(f"{room}/w.gtkw")
         self.assertIn("$scope module COUNT_1 $end\n$var wire 1 ) R $end\n", drawing)
         self.assertIn('[dumpfile] "w.vcd"\n', save)
         self.assertIn("@800200\n-COUNT_1\n@28\nWATCH.COUNT_1.R\n", save)
         shown = re.findall(r"^WATCH\..*", save, flags=re.M)
-        self.assertEqual(len(shown), len(sigcflat.Expansion(sigclib.read_text(program)).signals))
+        self.assertEqual(len(shown), len(expansion.Expansion(files_read.read_text(program)).signals))
 
     @needs_sigc
     def test_states_by_their_names(self):
         boiler = (f"{TUTORIAL}/boiler.sig", f"{TUTORIAL}/boiler.flows")
         with tempfile.TemporaryDirectory() as room:
             ran("trace2vcd", *boiler, "-o", f"{room}/b.vcd")
-            drawing, save = sigclib.read_text(f"{room}/b.vcd"), sigclib.read_text(f"{room}/b.gtkw")
+            drawing, save = files_read.read_text(f"{room}/b.vcd"), files_read.read_text(f"{room}/b.gtkw")
             trace = written(room, "b.trace", ran("sigc-trace", *boiler).stdout)
             self.assertIn("\nsHEAT ", ran("trace2vcd", trace, "--program", boiler[0]).stdout)
         code = re.search(r"\$var string 1 (\S+) STATE \$end", drawing)[1]

@@ -5,33 +5,37 @@ import unittest
 
 from calling import TOP, TUTORIAL, needs_sigc, ran, sigc
 
-import sigclib
+from sigc.read import files_read
 
 FENCE = re.compile(r"^```(?:signal|text) (\S+)\n(.*?)^```$", flags=re.M | re.S)
 NAMES = sorted(it for it in os.listdir(TUTORIAL) if it.endswith(".sig"))
 # What the page makes of others, by its commands.
 MADE = ["boiler.sig", "clusters.sig"]
+# Of these it shows the lines by which they differ from the one before.
+IN_PART = ["alarm.sig", "count-2.sig", "heat-1.sig", "heater-2.sig", "power.sig"]
 WRONG = [it for it in NAMES if re.search(r"-\d+\.sig$", it)]
 
 
 def fences():
     """The fences of the tutorial that have a name, in order."""
-    return FENCE.findall(sigclib.read_text(f"{TOP}/docs/tutorial.md"))
+    return FENCE.findall(files_read.read_text(f"{TOP}/docs/tutorial.md"))
 
 
 class Tutorial(unittest.TestCase):
     def test_every_fence_is_a_file(self):
         for name, text in fences():
             with self.subTest(name):
-                self.assertEqual(sigclib.read_text(f"{TUTORIAL}/{name}"), text)
+                self.assertEqual(files_read.read_text(f"{TUTORIAL}/{name}"), text)
 
     def test_every_program_is_shown_once(self):
         shown = [name for name, _ in fences() if name.endswith(".sig")]
-        self.assertEqual(sorted([*shown, *MADE]), NAMES)
+        self.assertEqual(sorted([*shown, *MADE, *IN_PART]), NAMES)
+        for name in IN_PART:
+            self.assertIn(f" {name}", files_read.read_text(f"{TOP}/docs/tutorial.md"))
 
     def test_the_boiler_is_its_controller_and_its_table(self):
         behind = ran("sigc-automaton", f"{TUTORIAL}/modes.table").stdout
-        self.assertEqual(sigclib.read_text(f"{TUTORIAL}/boiler.sig"), sigclib.read_text(f"{TUTORIAL}/boiler-1.sig") + behind)
+        self.assertEqual(files_read.read_text(f"{TUTORIAL}/boiler.sig"), files_read.read_text(f"{TUTORIAL}/boiler-1.sig") + behind)
 
     @needs_sigc
     def test_wrong_programs_are_refused_and_the_others_have_flows(self):

@@ -9,7 +9,7 @@ import unittest
 from helping import NEEDS_SIGC, TOOLS, only_with, program
 from test_wrong import line_of, rows_of
 
-import sigcrun
+from sigc.call import compiler
 
 HEAD = "process P = (? integer A; boolean B ! integer Y)\n"
 DEAD = f"{HEAD}(| Y := (A when B) + (A when not B)\n | A ^= B\n |);\n"
@@ -52,7 +52,7 @@ def kind_of(said):
 @only_with(shutil.which("vim"), "vim is not installed: its test is left out")
 class Make(unittest.TestCase):
     def test_every_kind_of_refusal(self):
-        sigc = sigcrun.Sigc(program())
+        sigc = compiler.Sigc(program())
         texts = {kind_of(fields["said"]): text for _, fields, text in rows_of("programs.txt")[1] if fields["said"] != "accepted"}
         texts |= {str(at): it for at, it in enumerate((DEAD, MANY, LONG))}
         files = {f"p{at:02}.sig": it for at, it in enumerate(texts.values())}

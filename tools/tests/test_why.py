@@ -6,16 +6,10 @@ import unittest
 
 from helping import EXAMPLES, NEEDS_SIGC, program, ran
 
-import sigccause
-import sigcchange
-import sigcedit
-import sigchints
-import sigcleast
-import sigcloops
-import sigcmend
-import sigcread
-import sigcrun
-import sigcshow
+from sigc.call import compiler
+from sigc.hints import gathered
+from sigc.read import editing, shown_places, syntax
+from sigc.why import causes, changed_signals, least_part, loops, mending
 
 LIMITER = """% A ramp with a limiter. %
 process RAMP = (? boolean TICK; integer A ! integer Y)
@@ -55,18 +49,18 @@ class Reader(unittest.TestCase):
         for name in sorted(os.listdir(EXAMPLES)):
             if name.endswith(".sig"):
                 with self.subTest(name):
-                    reader = sigcread.read(sigcrun.read_program(f"{EXAMPLES}/{name}"))
+                    reader = syntax.read(compiler.read_program(f"{EXAMPLES}/{name}"))
                     self.assertEqual(reader.faults, [])
                     self.assertTrue(all(it.form != "faulty" for process in reader.processes for it in process.equations))
 
     def test_what_was_wanted(self):
-        (fault,) = sigcread.read("process P = (? integer A ! integer Y)\n(| Y := (A + |);").faults
+        (fault,) = syntax.read("process P = (? integer A ! integer Y)\n(| Y := (A + |);").faults
         self.assertEqual((fault.found.line, fault.found.col, fault.found.text), (2, 14, "|)"))
         self.assertIn("an expression", fault.wanted)
         self.assertEqual([close for _, close in fault.open], [";", "|)", ")"])
 
     def test_several_faults(self):
-        reader = sigcread.read("process P = (? integer A ! integer Y, Z)\n(| Y = A | Z := A + | W := A A |);")
+        reader = syntax.read("process P = (? integer A ! integer Y, Z)\n(| Y = A | Z := A + | W := A A |);")
         self.assertEqual([it.found.col for it in reader.faults], [10, 21, 30])
 
     def test_precedences(self):
@@ -79,7 +73,7 @@ class Reader(unittest.TestCase):
             ("when A ^+ B when C", "(when (at (^+ A B)) C)"),
             ("^ A cell B init -1", "(cell (^ A) B)"),
         ]:
-            reader = sigcread.read(f"process P = (? ! ) Y := {text};")
+            reader = syntax.read(f"process P = (? ! ) Y := {text};")
             self.assertEqual(reader.faults, [], text)
             self.assertEqual(shape(reader.processes[0].equations[0].right), wanted)
 
@@ -87,25 +81,25 @@ class Reader(unittest.TestCase):
         chance = random.Random(1)
         pieces = ["process", "P", "=", "(", "?", "!", ")", "(|", "|)", "|", ":=", "A", ";", "where", "end", "integer", ",", "%", "init", "1", "{", "}", "\x00", "\xff", "^", "when"]
         for _ in range(300):
-            sigcread.read(" ".join(chance.choice(pieces) for _ in range(chance.randrange(60))))
-        sigcread.read("process P = (? ! ) Y := " + "(" * 3000)
-        sigcread.read("process P = (? ! ) " + "(| " * 3000)
+            syntax.read(" ".join(chance.choice(pieces) for _ in range(chance.randrange(60))))
+        syntax.read("process P = (? ! ) Y := " + "(" * 3000)
+        syntax.read("process P = (? ! ) " + "(| " * 3000)
 
 
 class Least(unittest.TestCase):
     def test_the_least_part(self):
-        self.assertEqual(sigcleast.least(20, lambda kept: {3, 7, 16} <= set(kept)), [3, 7, 16])
-        self.assertEqual(sigcleast.least(20, lambda kept: True), [])
-        self.assertEqual(sigcleast.least(3, lambda kept: len(kept) == 3), [0, 1, 2])
-        self.assertEqual(sigcleast.least(0, lambda kept: True), [])
+        self.assertEqual(least_part.least(20, lambda kept: {3, 7, 16} <= set(kept)), [3, 7, 16])
+        self.assertEqual(least_part.least(20, lambda kept: True), [])
+        self.assertEqual(least_part.least(3, lambda kept: len(kept) == 3), [0, 1, 2])
+        self.assertEqual(least_part.least(0, lambda kept: True), [])
 
     def test_an_edit_between_two_texts(self):
         for old, new in [("abc", "abc"), ("abc", "axc"), ("aa", "aaa"), ("", "x"), ("x", ""), ("abab", "ab")]:
-            edit = sigcedit.difference(old, new)
-            self.assertEqual(sigcedit.applied(old, [edit]), new)
+            edit = editing.difference(old, new)
+            self.assertEqual(editing.applied(old, [edit]), new)
 
     def test_a_window_of_a_long_line(self):
-        shown = sigcshow.pointed("x" * 300 + "q" + "x" * 300, 1, 301).split("\n")
+        shown = shown_places.pointed("x" * 300 + "q" + "x" * 300, 1, 301).split("\n")
         self.assertEqual(shown[0][shown[1].index("^")], "q")
         self.assertLess(len(shown[0]), 130)
 
@@ -114,32 +108,32 @@ class Least(unittest.TestCase):
 class Causes(unittest.TestCase):
     @classmethod
     def setUpClass(cls):
-        cls.sigc = sigcrun.Sigc(program())
+        cls.sigc = compiler.Sigc(program())
 
     def cause(self, text):
-        told = sigccause.told_of(self.sigc.check(text).text)
-        cause = sigccause.cause_of(self.sigc, sigcread.read(text).processes, told)
+        told = causes.told_of(self.sigc.check(text).text)
+        cause = causes.cause_of(self.sigc, syntax.read(text).processes, told)
         return told, cause, [it.place.line for it in cause.equations()]
 
     def mend(self, text):
-        mends = sigcmend.mends_of(self.sigc, text, 1)
+        mends = mending.mends_of(self.sigc, text, 1)
         self.assertTrue(mends)
         self.assertIsNone(self.sigc.check(mends[0].text))
         return mends[0]
 
     def test_a_fault_in_a_called_process(self):
         told, cause, lines = self.cause(LIMITER)
-        self.assertEqual(told, sigccause.Told("forced", ("TICK",)))
+        self.assertEqual(told, causes.Told("forced", ("TICK",)))
         self.assertEqual(self.sigc.check(LIMITER)[:2], (2, 27))
         self.assertEqual(lines, [3, 4, 5, 5, 10, 11, 12, 13])
-        self.assertEqual(sigccause.called_by(cause.equations()[-1]), "in LIMIT, called at 5:9")
+        self.assertEqual(causes.called_by(cause.equations()[-1]), "in LIMIT, called at 5:9")
         self.assertIn("(M default (0 when ^(CUT default X)))", self.mend(LIMITER).text)
 
     def test_none_of_the_equations_can_be_left_out(self):
         told, cause, _ = self.cause(LIMITER)
         for it in cause.kept:
             rest = [other for other in cause.kept if other != it]
-            self.assertFalse(sigccause.same(cause.expanded.told(self.sigc, rest, told.names), told))
+            self.assertFalse(causes.same(cause.expanded.told(self.sigc, rest, told.names), told))
 
     def test_a_comparison_that_is_written_twice(self):
         text = "process P = (? integer A ! integer Z)\n(| X := A when (A < 10)\n | Y := (A + 1) when (A < 10)\n | Z := X + Y\n | W := A * 2\n |)\nwhere integer X, Y, W; end;\n"
@@ -157,32 +151,32 @@ class Causes(unittest.TestCase):
         text = "process P = (? event TICK; boolean R ! integer Y)\n(| R ^= TICK | Y := COUNT(R) |)\nwhere process COUNT = (? boolean S ! integer N)\n(| N := ZN + 1\n | ZN := N $ init 0\n |)\nwhere integer ZN; end;\nend;\n"
         self.assertEqual(self.mend(text).words, "the clock equation N ^= S")
         self.assertIn("| N ^= S\n |)\nwhere integer ZN; end;\nend;", self.mend(text).text)
-        hint = sigchints.hint_of(text, sigcread.read(text), self.sigc.check(text))
+        hint = gathered.hint_of(text, syntax.read(text), self.sigc.check(text))
         self.assertEqual(hint.lines, ["N of COUNT is made of its own past: say there when it comes, as N ^= S"])
 
     def test_signals_that_are_made_of_their_own_past(self):
         text = BYTES.format("")
         self.assertEqual(self.mend(text).words, "the clock equation VALUE ^= N ^= BIT")
-        hint = sigchints.hint_of(text, sigcread.read(text), self.sigc.check(text))
+        hint = gathered.hint_of(text, syntax.read(text), self.sigc.check(text))
         self.assertEqual(hint.lines, ["VALUE and N are made of their own past: say when they come, as VALUE ^= N ^= BIT"])
         self.assertEqual(self.mend(BYTES.format(" | VALUE ^= BIT\n")).words, "the clock equation N ^= VALUE")
-        self.assertIn("the clock equation VALUE ^= BIT", [it.words for it in sigcmend.mends_of(self.sigc, BYTES.format(" | N ^= BIT\n"), 3)])
+        self.assertIn("the clock equation VALUE ^= BIT", [it.words for it in mending.mends_of(self.sigc, BYTES.format(" | N ^= BIT\n"), 3)])
 
     def test_two_faults_of_different_sorts(self):
         text = "process P = (? boolean LINE ! integer BYTE)\n(| IDLE := N = 0\n | N := (1 when BEGIN) default (ZN + 1)\n | ZN := N $ init 0\n | BEGIN := not LINE and IDLE\n | SHIFT := ((SHIFT $ init 0) + 1) when LINE\n | BYTE := SHIFT when BEGIN\n |)\nwhere boolean BEGIN, IDLE; integer N, ZN, SHIFT; end;\n"
         refusal = self.sigc.check(text)
         self.assertEqual(refusal.text, "clock of SHIFT is not determined")
-        self.assertEqual(sigchints.hint_of(text, sigcread.read(text), refusal).lines, ["SHIFT is made of its own past: say when it comes, as SHIFT ^= when LINE"])
+        self.assertEqual(gathered.hint_of(text, syntax.read(text), refusal).lines, ["SHIFT is made of its own past: say when it comes, as SHIFT ^= when LINE"])
         self.assertTrue(self.mend(text).words.startswith("the clock equation SHIFT ^= when LINE; "))
 
     def test_loops(self):
-        (process,) = sigcread.read(BYTES.format("")).processes
-        self.assertEqual([(sorted(it.names), it.name, it.others) for it in sigcloops.untied(process)], [(["VALUE", "ZVALUE"], "VALUE", ["BIT", "LAST"]), (["LAST", "N", "ZN"], "N", [])])
-        self.assertEqual([it.name for it in sigcloops.loops(process)], ["FIRST", "VALUE", "N"])
+        (process,) = syntax.read(BYTES.format("")).processes
+        self.assertEqual([(sorted(it.names), it.name, it.others) for it in loops.untied(process)], [(["VALUE", "ZVALUE"], "VALUE", ["BIT", "LAST"]), (["LAST", "N", "ZN"], "N", [])])
+        self.assertEqual([it.name for it in loops.loops(process)], ["FIRST", "VALUE", "N"])
 
     def test_two_inputs_that_come_by_themselves(self):
         text = "process LIFT = (? integer POS; boolean B ! integer LAST; boolean ASKED)\n(| LAST := POS + 1\n | ASKED := B or (B $ init false)\n |);\n"
-        one, other = sigcmend.mends_of(self.sigc, text, 2)
+        one, other = mending.mends_of(self.sigc, text, 2)
         self.assertIn("(? boolean POS_COMES, B_COMES; integer POS; boolean B !", one.text)
         self.assertIn(" | POS_COMES ^= B_COMES\n | POS ^= when POS_COMES\n | B ^= when B_COMES\n |);", one.text)
         self.assertEqual(other.words, "the clock equation POS ^= B")
@@ -190,7 +184,7 @@ class Causes(unittest.TestCase):
     def test_two_inputs_that_are_merged(self):
         text = "process P = (? integer A; event B ! boolean C; integer Y)\n(| Y := A + 1\n | C := B default (false when ^A)\n |);\n"
         self.assertIn(" | A_COMES ^= B_COMES\n | A ^= when A_COMES\n | B ^= when B_COMES\n", self.mend(text).text)
-        self.assertIn("two boolean inputs that come together tell which does", sigchints.hint_of(text, sigcread.read(text), self.sigc.check(text)).lines[0])
+        self.assertIn("two boolean inputs that come together tell which does", gathered.hint_of(text, syntax.read(text), self.sigc.check(text)).lines[0])
 
     def test_events_that_are_all_asked(self):
         text = "process P = (? event A, B, C ! event E; integer N)\n(| N := ((ZN + 5) when A) default ((ZN + 10) when B) default ((ZN - 15) when E) default ZN\n | ZN := N $ init 0\n | E := C when (ZN >= 15)\n |)\nwhere integer ZN; end;\n"
@@ -200,12 +194,12 @@ class Causes(unittest.TestCase):
 
     def test_mends_that_begin_in_different_ways_come_first(self):
         text = "process P = (? integer A, B, C ! integer Y, Z, W)\n(| Y := A | Z := B | W := C |);\n"
-        begins = [it.words.split(";")[0] for it in sigcmend.mends_of(self.sigc, text, 2)]
+        begins = [it.words.split(";")[0] for it in mending.mends_of(self.sigc, text, 2)]
         self.assertEqual(begins[1], "the clock equation A ^= B")
 
     def test_two_inputs_that_meet(self):
         text = "process P = (? boolean B; integer A ! integer Y)\n(| Y := A when B |);\n"
-        one, other = sigcmend.mends_of(self.sigc, text, 2)
+        one, other = mending.mends_of(self.sigc, text, 2)
         self.assertEqual(one.words, "the clock equation B ^= A")
         self.assertIn("(? boolean B_COMES, A_COMES, B; integer A !", other.text)
 
@@ -224,17 +218,17 @@ class Causes(unittest.TestCase):
             ("event CLICKED; integer N", ["N := (N $ init 0) + 1", "CLICKED := CLICK when (N > 3)", "M := TICK cell CLICK init true"], "where boolean M; end"),
         ]:
             text = f"process MOUSE = (? event TICK, CLICK ! {outputs})\n(| {' | '.join(equations)} |)\n{locals_};\n"
-            first, *others = sigcmend.mends_of(self.sigc, text, 6)
+            first, *others = mending.mends_of(self.sigc, text, 6)
             self.assertIn("| TICK_COMES ^= CLICK_COMES | TICK ^= when TICK_COMES | CLICK ^= when CLICK_COMES", first.text)
             self.assertTrue(others)
 
     def test_how_much_a_mend_leaves_to_change(self):
-        before = sigcread.read("process P = (? event A, B ! boolean Y)\n(| Y := A default (false when B) |);").processes[0]
+        before = syntax.read("process P = (? event A, B ! boolean Y)\n(| Y := A default (false when B) |);").processes[0]
         mended = "process P = (? boolean C, D; event A, B ! boolean Y)\n(| Y := A default (false when B) | C ^= D | A ^= when C | B ^= when D |);"
-        self.assertEqual(sigcchange.change(self.sigc, mended, before), (0, 1, 1))
-        self.assertEqual(sigcchange.change(self.sigc, "process P = (? event A, B ! boolean Y)\n(| Y := A default (false when B) | A ^= B |);", before), (-1, 0, 0))
-        self.assertEqual([sigcchange.is_changing("boolean", it) for it in ([], ["true"] * 9, ["true", None], ["true", "false"])], [False, False, False, True])
-        self.assertEqual([sigcchange.is_changing("event", it) for it in (["true"] * 9, ["true", None])], [False, True])
+        self.assertEqual(changed_signals.change(self.sigc, mended, before), (0, 1, 1))
+        self.assertEqual(changed_signals.change(self.sigc, "process P = (? event A, B ! boolean Y)\n(| Y := A default (false when B) | A ^= B |);", before), (-1, 0, 0))
+        self.assertEqual([changed_signals.is_changing("boolean", it) for it in ([], ["true"] * 9, ["true", None], ["true", "false"])], [False, False, False, True])
+        self.assertEqual([changed_signals.is_changing("event", it) for it in (["true"] * 9, ["true", None])], [False, True])
 
     def test_the_two_sides_of_a_counter(self):
         text = "process P = (? event UP, DOWN ! integer N)\n(| N := ((N $ init 0) + 1 when UP) default ((N $ init 0) - 1 when DOWN) |);\n"

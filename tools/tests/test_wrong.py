@@ -7,12 +7,12 @@ import unittest
 
 from helping import NEEDS_SIGC, module_of, program, ran
 
-import sigcdocument
-import sigcedit
-import sigcrun
+from sigc.call import compiler
+from sigc.editor import documents
+from sigc.read import editing
 
 FOLDER = os.path.join(os.path.dirname(os.path.realpath(__file__)), "wrong")
-PROGRAMS, FLOWS, WITHOUT_HINT = 42, 18, 2
+PROGRAMS, FLOWS, WITHOUT_HINT = 47, 18, 2
 WHOLE = {"start": {"line": 0, "character": 0}, "end": {"line": 9999, "character": 0}}
 
 
@@ -40,7 +40,7 @@ def line_of(refusal):
 class Programs(unittest.TestCase):
     @classmethod
     def setUpClass(cls):
-        cls.sigc = sigcrun.Sigc(program())
+        cls.sigc = compiler.Sigc(program())
         cls.caret = module_of("sigc-caret")
         cls.rows = rows_of("programs.txt")[1]
 
@@ -76,7 +76,7 @@ class Programs(unittest.TestCase):
     def test_each_action_of_an_editor_is_accepted(self):
         for title, fields, text in self.rows:
             with self.subTest(title):
-                document = sigcdocument.Document("file:///p.sig", text, self.sigc)
+                document = documents.Document("file:///p.sig", text, self.sigc)
                 self.assertTrue(fields["said"] == "accepted" or document.diagnostics()[0]["message"])
                 mended = [self.changed(document, it) for it in document.actions(WHOLE)]
                 self.assertEqual([line_of(self.sigc.check(it)) for it in mended], ["accepted"] * len(mended))
@@ -84,7 +84,7 @@ class Programs(unittest.TestCase):
 
     def changed(self, document, action):
         edits = action["edit"]["changes"][document.uri]
-        return sigcedit.applied(document.text, [sigcedit.Edit(document.offset(it["range"]["start"]), document.offset(it["range"]["end"]), it["newText"]) for it in edits])
+        return editing.applied(document.text, [editing.Edit(document.offset(it["range"]["start"]), document.offset(it["range"]["end"]), it["newText"]) for it in edits])
 
     def test_an_undeclared_local_is_told_once(self):
         title, fields, text = self.rows[0]
@@ -97,7 +97,7 @@ class Programs(unittest.TestCase):
             "process P = (? integer A ! integer Y)\n(| Y := A cell A init true |);\n",
             "process P = (? integer A ! integer Y)\n(| Y := (A when C) default (A when D) | C := D | D := C |);\n",
         ):
-            document = sigcdocument.Document("file:///p.sig", text, self.sigc)
+            document = documents.Document("file:///p.sig", text, self.sigc)
             mended = [self.changed(document, it) for it in document.actions(WHOLE)]
             self.assertEqual([it for it in mended if self.sigc.check(it)], [], text)
 

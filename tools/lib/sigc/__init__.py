@@ -1,0 +1,1 @@
+"""The scripts beside sigc: what the commands of tools/ do, and what they share."""

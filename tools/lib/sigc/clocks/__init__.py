@@ -1,0 +1,1 @@
+"""Clocks, clusters and paces as sigc tells them, and in words."""

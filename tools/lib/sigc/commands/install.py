@@ -1,0 +1,127 @@
+"""Puts sigc, its scripts, completions and man page into a folder.
+
+    tools/sigc-install ~/.local
+
+DIR/bin gets sigc and the scripts, DIR/lib/sigc the program and what the scripts read, DIR/share the man page sigc(1) and
+completions for bash and zsh. The program is the file that the variable SIGC names, or else the one that ./sigc runs; none
+is built. What an earlier call put there is replaced; nothing else is touched.
+"""
+import argparse
+import os
+import shutil
+import sys
+import tempfile
+
+from sigc.call import command_words, compiler, manual
+from sigc.places import TOOLS, TOP
+
+OF_THE_SOURCES = ("sigc-build", "sigc-dev", "sigc-install", "sigc")
+INNER = """#!/bin/sh
+# What the scripts take for ./sigc where they are installed.
+program=$(dirname "$(readlink -f "$0")")/program
+if [ "$*" = --which ]; then echo "$program"; exit; fi
+exec "$program" "$@"
+"""
+DOOR = """#!/bin/sh
+# sigc as it is installed: the program, and for who has no command of it yet the way to them.
+library=$(cd "$(dirname "$(readlink -f "$0")")/../lib/sigc" && pwd) || exit 70
+case "$*" in
+help | --help | -h)
+    [ ! -e "$library/unproved" ] || echo 'sigc: nothing was proved of this program' >&2
+    exec python3 "$library/tools/sigc" --help ;;
+esac
+case "${1-}" in
+@COMMANDS@) exec "$library/program" "$@" ;;
+esac
+"$library/program" "$@"
+status=$?
+echo 'sigc: the commands are told by sigc --help, and by man sigc' >&2
+exit $status
+"""
+
+
+def scripts():
+    """The scripts of this folder that are of use without the sources."""
+    found = [it for it in sorted(os.listdir(TOOLS)) if os.path.isfile(f"{TOOLS}/{it}") and os.access(f"{TOOLS}/{it}", os.X_OK)]
+    return [it for it in found if it not in OF_THE_SOURCES]
+
+
+def written(path, text, is_program=False):
+    os.makedirs(os.path.dirname(path), exist_ok=True)
+    with open(path, "w", encoding="utf-8") as it:
+        it.write(text)
+    os.chmod(path, 0o755 if is_program else 0o644)
+
+
+def copied(folder):
+    """Copies scripts, modules, editors and documents below lib/sigc."""
+    library = f"{folder}/lib/sigc"
+    if os.path.isdir(library):
+        shutil.rmtree(library)
+    ignored = shutil.ignore_patterns("tests", "__pycache__")
+    shutil.copytree(TOOLS, f"{library}/tools", ignore=ignored)
+    shutil.copytree(f"{TOP}/docs", f"{library}/docs", ignore=ignored)
+    written(f"{library}/sigc", INNER, is_program=True)
+
+
+def linked(folder):
+    """A link in bin for each script."""
+    for it in scripts():
+        link = f"{folder}/bin/{it}"
+        if os.path.lexists(link):
+            os.remove(link)
+        os.symlink(f"../lib/sigc/tools/{it}", link)
+
+
+def put_program(folder, program, is_unproved):
+    """The program below lib/sigc, with a file beside it that says so where nothing was proved of it, and in bin the door to it."""
+    made = f"{folder}/lib/sigc/program"
+    shutil.copyfile(program, f"{made}.new")
+    os.chmod(f"{made}.new", 0o755)
+    os.replace(f"{made}.new", made)
+    if is_unproved:
+        written(f"{folder}/lib/sigc/unproved", "nothing was proved of this program\n")
+    if os.path.lexists(f"{folder}/bin/sigc"):
+        os.remove(f"{folder}/bin/sigc")
+    written(f"{folder}/bin/sigc", DOOR.replace("@COMMANDS@", " | ".join(command_words.COMMANDS)), is_program=True)
+
+
+def put_completions(folder):
+    """One file for each shell; bash looks for one of each command's name."""
+    flags = manual.flags_of(TOOLS, scripts())
+    bash = f"{folder}/share/bash-completion/completions"
+    written(f"{bash}/sigc", manual.bash_completion(flags))
+    written(f"{folder}/share/zsh/site-functions/_sigc", manual.zsh_completion(flags))
+    for it in scripts():
+        if os.path.lexists(f"{bash}/{it}"):
+            os.remove(f"{bash}/{it}")
+        os.symlink("sigc", f"{bash}/{it}")
+
+
+def main():
+    words = argparse.ArgumentParser(prog="sigc-install", description=__doc__, formatter_class=argparse.RawDescriptionHelpFormatter)
+    words.add_argument("folder", metavar="DIR", help="the folder, as ~/.local")
+    words = words.parse_args()
+    folder, program = os.path.abspath(words.folder), os.path.realpath(compiler.program())
+    if not os.path.isfile(program):
+        raise compiler.NoProgram(f"{program} is no file")
+    if os.path.commonpath([folder, TOOLS]) == TOOLS:
+        raise compiler.NoProgram(f"{folder} stands inside {TOOLS}")
+    with tempfile.TemporaryDirectory(prefix="sigc-install-") as room:
+        kept = shutil.copy(program, f"{room}/program")
+        copied(folder)
+        put_program(folder, kept, os.path.basename(program) == "unproved")
+    linked(folder)
+    put_completions(folder)
+    with open(f"{TOP}/docs/formats.md", encoding="utf-8") as it:
+        written(f"{folder}/share/man/man1/sigc.1", manual.man_page(it.read()))
+    print(f"installed in {folder}: bin/sigc and {len(scripts())} scripts, share/man/man1/sigc.1, completions for bash and zsh")
+    if os.path.basename(program) == "unproved":
+        print("nothing was proved of this program, which sigc --help tells there too")
+    if f"{folder}/bin" not in os.environ.get("PATH", "").split(":"):
+        print(f"{folder}/bin is not on the PATH: export PATH={folder}/bin:$PATH")
+    return 0
+
+
+def start():
+    sys.exit(compiler.guarded(main))

@@ -1,0 +1,1 @@
+"""What is wrong where sigc refuses a text, and what mends it."""

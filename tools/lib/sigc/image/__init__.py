@@ -1,0 +1,1 @@
+"""Images, and what one instant of an image does."""

@@ -1,0 +1,1 @@
+"""Programs as text: tokens, processes, expressions, calls expanded, edits and layout."""

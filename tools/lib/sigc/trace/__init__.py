@@ -1,0 +1,1 @@
+"""Runs of which every signal is known at each instant."""

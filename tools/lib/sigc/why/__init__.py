@@ -1,0 +1,1 @@
+"""Why sigc refuses the clocks of a program, and mends that were tried."""
