@@ -11,8 +11,8 @@ the exchange by which a link's queue gives out a place, before which no later ac
 interleavings of these steps; each must lead on until all actors have ended.
 
 The cases are small programs with links of one chunk, of one item or two, on two and three threads, some of which serve
-several actors. Wrong protocols are searched too, and in each of them threads must be found that sleep for ever. It takes a
-minute; the last line is `N passed, M failed`.
+several actors. Wrong protocols are searched too, and in each of them threads must be found that sleep for ever. It takes a few
+minutes; the last line is `N passed, M failed`.
 """
 import sys
 from typing import NamedTuple
@@ -50,6 +50,8 @@ CASES = [
     Case("chunks of two actors", [[("put", 0)], [("put", 1)], [("take", 0), ("take", 1)]], [[0, 1], [2]], 2, 2),
     Case("chunks within a thread", [[("put", 0), ("put", 1)], [("take", 0), ("take", 2)], [("take", 1), ("put", 2)]], [[0, 1], [2]], 2, 2),
     Case("an answer to what is held", [[("put", 0), ("put", 0), ("put", 0), ("take", 1)], [("take", 0), ("take", 0), ("take", 0), ("put", 1)]], [[0], [1]], 1, 2),
+    Case("more than a chunk", [[("put", 0)] * 3, [("take", 0)] * 3], [[0], [1]], 1, 2),
+    Case("a failure ends who took nothing", [[("put", 0)] * 4, [("take", 0)] * 4], [[0], [1]], 1, 2, (1, 0)),
     Case("a failure ends the reader", [[("put", 0)], [("take", 0), ("put", 1)], [("take", 1)]], [[0], [1], [2]], 2, 2, (1, 1)),
     Case("a failure ends the writer", [[("put", 0)], [("take", 0)]], [[0], [1]], 4, 2, (0, 3)),
     Case("many held, little room", [[("put", 0), ("put", 0), ("put", 0), ("take", 1)], [("take", 0), ("put", 1), ("take", 0), ("take", 0)]], [[0], [1]], 1, 2),
