@@ -3,34 +3,8 @@
 #![tactic(auto)]
 
 mod answer;
-mod bytes;
-mod calls;
-mod clocks;
-mod diagrams;
-mod expressions;
-mod fits;
-mod flows;
-mod guards;
-mod images;
-mod kernels;
-mod labels;
-mod made;
-mod names;
-mod plans;
-mod relations;
 mod report;
 mod rows;
-mod runs;
-mod scopes;
-mod sections;
-mod solutions;
-mod stores;
-mod syntax;
-mod texts;
-mod tokens;
-mod traces;
-mod values;
-mod words;
 
 use anyhow::Result;
 use report::print_report;

@@ -4,9 +4,9 @@ ghost use Rattle.std.specs.Prelude.{All, IfOk};
 ghost use Rattle.sig_dd.specs.Nodes.{Holds};
 
 use super::answer::answer;
-use super::bytes::bytes_of;
 use anyhow::{Context, Result};
 use sig_dd::{Ref, Store};
+use sig_rows_base::bytes_of;
 use std::alloc::{AllocError, Global};
 use std::fs;
 use std::io::Print;
@@ -35,35 +35,62 @@ pub fn check_files<R: Print + Files + AllocGlobal>(rt: &R, paths: &[String]) -> 
 }
 
 /// Asks for each row of a text.
-fn check<R: Print + AllocGlobal>(
-    rt: &R,
-    name: &str,
-    text: &str,
-    mut count: Count,
-) -> Result<Count> {
+fn check<R: Print + AllocGlobal>(rt: &R, name: &str, text: &str, count: Count) -> Result<Count> {
     let alloc = rt.alloc();
     let mut store = Store::new(alloc, 0)?;
     let mut refs = Vec::new(alloc);
     let mut program = Vec::new(alloc);
+    check_lines(rt, name, text, &mut store, &mut refs, &mut program, count)
+}
+
+/// Asks for each row of a text, with these for the store, its functions and the program of the rows so far.
+fn check_lines<R: Print + AllocGlobal>(
+    rt: &R,
+    name: &str,
+    text: &str,
+    store: &mut Store,
+    refs: &mut Vec<Ref>,
+    program: &mut Vec<u8>,
+    mut count: Count,
+) -> Result<Count>
+    requires { All (λ f. Holds store.old.nodes f) refs.old.items }
+{
+    let alloc = rt.alloc();
     for (number, line) in text.lines().enumerate() {
         if line.is_empty() || line.starts_with('%') {
             continue;
         }
         if line.starts_with("process ") || line.starts_with("\\nprocess ") {
-            program = bytes_of(alloc, line)?;
+            *program = bytes_of(alloc, line)?;
         } else if let Some(nodes) = line.strip_prefix("store ") {
-            store = Store::new(alloc, nodes.parse::<u32>()?)?;
-            refs = constants(alloc, &store)?;
+            *store = Store::new(alloc, nodes.parse::<u32>()?)?;
+            *refs = constants(alloc, store)?;
         } else {
-            let (words, wanted) = line.split_once(": ").context("a row has no answer")?;
-            let found = match answer(alloc, &mut store, &mut refs, &program, words) {
-                Ok(found) => found,
-                Err(error) => format!(in alloc; "{error:?}")?,
-            };
-            count = compare(rt, (name, number), words, wanted, &found, count)?;
+            count = check_row(rt, (name, number), line, store, refs, program, count)?;
         }
     }
     Ok(count)
+}
+
+/// Asks for a row.
+fn check_row<R: Print + AllocGlobal>(
+    rt: &R,
+    place: (&str, usize),
+    line: &str,
+    store: &mut Store,
+    refs: &mut Vec<Ref>,
+    program: &[u8],
+    count: Count,
+) -> Result<Count>
+    requires { All (λ f. Holds store.old.nodes f) refs.old.items }
+    ensures { All (λ f. Holds store.new.nodes f) refs.new.items }
+{
+    let (words, wanted) = line.split_once(": ").context("a row has no answer")?;
+    let found = match answer(rt.alloc(), store, refs, program, words) {
+        Ok(found) => found,
+        Err(error) => format!(in rt.alloc(); "{error:?}")?,
+    };
+    compare(rt, place, words, wanted, &found, count)
 }
 
 /// The two constants.

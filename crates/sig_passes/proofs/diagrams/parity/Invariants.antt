@@ -1,6 +1,0 @@
-use Rattle.std.proofs.Common.{length, ◌≤◌}
-use Rattle.sig_dd.specs.Nodes.{Holds}
-use Rattle.sig_passes.proofs.diagrams.parity.Given as goal
-
-abbrev pub invariant-loop-v : goal.invariant-loop-v
-invariant-loop-v l = (length l.fn.store.nodes ≤ length l.store.nodes) × Holds l.store.nodes l.odd
