@@ -28,6 +28,10 @@ held inlet = take inlet.count inlet.items
 abbrev pub sent : Inlet → List ℤ
 sent inlet = items_in (link.sent inlet.put) ++ held inlet
 
+-- how many items of the chunk that was taken last were given
+abbrev pub given : Outlet → ℕ
+given outlet = outlet.given
+
 -- how many items are left of the opened chunk
 abbrev pub left : Outlet → ℕ
 left outlet = outlet.opened.count - outlet.given

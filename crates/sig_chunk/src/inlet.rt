@@ -1,6 +1,6 @@
 //! The end of a link into which items go.
 
-ghost use Rattle.std.specs.Prelude.{◌≡◌, ◌≢◌, ◌≤◌, ◌<◌, ◌+◌, ◌-◌, ◌*◌, [], ◌∷◌, ◌++◌, take, IsTrue, OnErr, OnOk};
+ghost use Rattle.std.specs.Prelude.{◌≡◌, ◌≢◌, ◌≤◌, ◌<◌, ◌+◌, ◌-◌, ◌*◌, [], ◌∷◌, ◌++◌, take, IsFalse, IsTrue, OnErr, OnOk};
 ghost use Rattle.sig_chunk.specs.Chunks.{AreSmall};
 ghost use Rattle.sig_link.specs.Ends as link;
 
@@ -38,7 +38,8 @@ impl Inlet {
 
     /// Whether it holds items that it has not handed over.
     pub fn holds(&self) -> bool
-        ensures { IsTrue result → held self.now ≢ [] }
+        ensures some { IsTrue result → held self.now ≢ [] }
+        ensures none { IsFalse result → held self.now ≡ [] }
     {
         self.count > 0
     }
@@ -75,12 +76,14 @@ impl Inlet {
         self.items[self.count as usize] = item;
     }
 
-    /// Hands over what it holds, if the queue has room, and tells whether it holds nothing any more. It may wait
-    /// for the other end to end a step.
+    /// Hands over what it holds, and tells whether it holds nothing any more: it still does only where the queue was
+    /// full of chunks at a step of this call, which is counted; nothing else then changed. It may wait for the other
+    /// end to end a step.
     pub fn hand_over<R: Wait>(&mut self, rt: &R) -> bool
         ensures end { IsSameInlet self.old self.new }
         ensures sent { sent self.new ≡ sent self.old }
         ensures handed { IsTrue result → held self.new ≡ [] }
+        ensures full { IsFalse result → FoundFull self.old self.new }
     {
         if self.count == 0 {
             return true;

@@ -1,6 +1,6 @@
 //! The end of a link from which items come.
 
-ghost use Rattle.std.specs.Prelude.{◌≡◌, ◌≤◌, [], ◌∷◌, ◌++◌, IfNone, IfSome};
+ghost use Rattle.std.specs.Prelude.{◌≡◌, ◌≤◌, ◌==◌, [], ◌∷◌, ◌++◌, IfNone, IfSome};
 ghost use Rattle.sig_chunk.specs.Chunks.{IsOpened};
 ghost use Rattle.sig_link.specs.Ends as link;
 
@@ -23,7 +23,7 @@ pub struct Outlet {
 }
 
 impl Outlet {
-    ghost use Rattle.sig_chunk.specs.Ends.{take_capacity, take_link, taken, times_empty, FoundEmpty};
+    ghost use Rattle.sig_chunk.specs.Ends.{given, take_capacity, take_link, taken, times_empty, FoundEmpty};
 
     /// How many items the link holds at most, those at both ends among them.
     pub fn capacity(&self) -> u32
@@ -33,7 +33,9 @@ impl Outlet {
     }
 
     /// Whether the item that was given last was the first of a chunk.
-    pub fn began_chunk(&self) -> bool {
+    pub fn began_chunk(&self) -> bool
+        ensures { result ≡ (given self.now == 1) }
+    {
         self.given == 1
     }
 
@@ -42,6 +44,7 @@ impl Outlet {
     /// end to end a step.
     pub fn pop<R: Wait>(&mut self, rt: &R) -> Option<i64>
         ensures end { take_link self.new ≡ take_link self.old }
+        ensures capacity { take_capacity self.new ≡ take_capacity self.old }
         ensures item { IfSome result (λ x. taken self.new ≡ taken self.old ++ x ∷ []) }
         ensures uncounted { IfSome result (λ x. times_empty self.new ≡ times_empty self.old) }
         ensures empty { IfNone result (FoundEmpty self.old self.new) }
