@@ -1,8 +1,8 @@
 -- What an actor does on its machine.
-use Rattle.sig_machine.proofs.Common.{◌≡◌, ◌<◌, ◌≤◌, ◌∙◌, inl, inr, Bool, true, ℕ, ℤ, List, [], length, slice_get, Option, None, Some, IfSome, refl, sym, ap, subst, arith, get_within, SigId, PlanView, Op, Compute, Actor, Registers, code_of, input_of, is_one, operated, outcome, truths_of, with_at, with_signal, IsFor, IsTarget, HasShape, IsKept, IsPut, ReadsWithin, as_named, input_taken, named, came_to, answered, Ok, Err, Cause, HasFault, AreForSteps, AreInstructions, AreNextTold, Instructions, listed, told_at, AreVariables, HasActor, IsOpOfStep, IsStepDone, actor_in, seen_in, ActorMachine, Instruction, Work, Next, Copy, One, Two, Machine}
+use Rattle.sig_machine.proofs.Common.{◌≡◌, ◌<◌, ◌≤◌, ◌∙◌, inl, inr, Bool, true, false, ℕ, ℤ, List, [], length, slice_get, Option, None, Some, IfSome, refl, sym, ap, subst, arith, get_within, SigId, PlanView, Op, Compute, Actor, Registers, code_of, input_of, is_one, operated, outcome, truths_of, with_at, with_signal, IsFor, IsTarget, HasShape, IsKept, IsPut, ReadsWithin, as_named, input_taken, named, came_to, answered, Ok, Err, Cause, HasFault, AreForSteps, AreInstructions, AreNextTold, Instructions, listed, told_at, AreVariables, HasActor, IsOpOfStep, IsStepDone, actor_in, seen_in, ActorMachine, Instruction, Work, Next, Copy, One, Two, Machine, AreOwnBelow, Own, WritesOwn, is_own, registers_of}
 use Rattle.sig_machine.proofs.OneInstruction.{faults_it, gives_it}
 use Rattle.sig_machine.proofs.FollowedInstructions.{kept_by}
-use Rattle.sig_machine.proofs.LeftValues.{absent_behind, behind, machine_behind}
+use Rattle.sig_machine.proofs.LeftValues.{absent_behind, behind, machine_behind, others_behind}
 use Rattle.sig_machine.proofs.Presence.{outcome_here}
 use Rattle.sig_machine.proofs.Shapes.{shaped}
 use Rattle.sig_machine.proofs.Told.{told_none, told_signal, truths_count}
@@ -20,6 +20,9 @@ IsOnMachine old new = new ≡ record old { machine = new.machine; truths = new.t
 module _ (old new : ActorMachine) (rest : IsOnMachine old new) where
   pub same_instructions : new.instructions ≡ old.instructions
   same_instructions = ap (λ (a : ActorMachine). a.instructions) rest
+
+  pub same_own : new.own ≡ old.own
+  same_own = ap (λ (a : ActorMachine). a.own) rest
 
   pub same_variables : new.variables.items ≡ old.variables.items
   same_variables = ap (λ (a : ActorMachine). a.variables.items) rest
@@ -72,14 +75,19 @@ module _ (plan : PlanView) (k : ℕ) (flows : List (List ℤ)) (old : ActorMachi
     pub told_behind : told_at (slice_get old.variables.items instruction.target) (is_one v) old.truths.items ≡ truths_of plan.clocks.conditions (seen_in new)
     told_behind = ap (told_at (slice_get old.variables.items instruction.target) (is_one v)) is.told ∙ told_by target
 
-    pub is_behind : new.truths.items ≡ truths_of plan.clocks.conditions (seen_in new) → HasActor plan k flows new
-    is_behind told = record {
+    pub is_behind : (instruction.target < length plan.kernel.signals → is_own old.own instruction.target ≡ true) → new.truths.items ≡ truths_of plan.clocks.conditions (seen_in new)
+        → HasActor plan k flows new
+    is_behind owned told = record {
       accepted = is.accepted;
       constants = is.constants;
       room = is.room;
       machine = machine_behind plan.kernel is.constants is.room flows old.machine is.machine op instruction target v new.machine kept;
       absent = absent_behind plan.kernel is.constants is.room flows old.machine is.machine op instruction target v new.machine kept is.absent;
       last = ap (λ (a : ActorMachine). length a.last.items) rest ∙ is.last;
+      below = subst (AreOwnBelow (length plan.kernel.signals)) (sym (same_own old new rest)) is.below;
+      writes = subst (λ (a : ActorMachine). WritesOwn a.own (length plan.kernel.signals) (listed a.instructions)) (sym rest) is.writes;
+      others = subst (λ (own : Own). (signal : ℕ) → is_own own signal ≡ false → registers_of new.machine signal ≡ None) (sym (same_own old new rest))
+          (others_behind plan.kernel is.constants is.room flows old.machine is.machine op instruction target v new.machine kept old.own owned is.others);
       inputs = is.inputs;
       instructions = subst (AreInstructions (length flows) (length is.constants)) (sym (same_instructions old new rest)) is.instructions;
       count = ap (λ (all : Instructions). length (listed all)) (same_instructions old new rest) ∙ is.count;
@@ -125,8 +133,8 @@ module _ (plan : PlanView) (k : ℕ) (flows : List (List ℤ)) (old : ActorMachi
       pub actor_written : (step : ℕ) → actor_in new step ≡ record (actor_in old step) { registers = with_at x.0 (Some v) (seen_in old) }
       actor_written step = actor_behind writer copy target refl tt v new kept rest step
 
-      pub is_written : HasActor plan k flows new
-      is_written = is_behind writer copy target refl tt v new kept rest (truths ∙ told_behind writer copy target refl tt v new kept rest)
+      pub is_written : is_own old.own x.0 ≡ true → HasActor plan k flows new
+      is_written own = is_behind writer copy target refl tt v new kept rest (λ less. own) (truths ∙ told_behind writer copy target refl tt v new kept rest)
 
   -- ---- a step that does an operation
 
@@ -164,4 +172,4 @@ module _ (plan : PlanView) (k : ℕ) (flows : List (List ℤ)) (old : ActorMachi
       step_told = told_behind op instruction for_op.target for_op.work.takes within v new kept rest
 
       pub step_is : new.truths.items ≡ truths_of plan.clocks.conditions (seen_in new) → HasActor plan k flows new
-      step_is = is_behind op instruction for_op.target for_op.work.takes within v new kept rest
+      step_is = is_behind op instruction for_op.target for_op.work.takes within v new kept rest (is.writes number instruction at)

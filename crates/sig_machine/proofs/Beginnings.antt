@@ -1,5 +1,5 @@
 -- The machine of an actor at the opening, and in the next instant.
-use Rattle.sig_machine.proofs.Common.{◌≡◌, ◌≤◌, ◌+◌, ◌∙◌, ℕ, ℤ, false, List, length, replicate, slice_get, slice_index_or, Some, refl, sym, ap, subst, arith, length-replicate, Actor, AreFlowsFor, IsAccepted, PlanView, at_next, code_of, fitting, flow_count, initial_in, no_registers, opening_actor, truths_of, actor_at, cell, memories_at, memories_of, registers_of, taken_of, AreForSteps, AreVariables, HasActor, actor_in, seen_in, truths_in, IsMachineFor, ActorMachine, Machine, AbsentAreZero, AreInstructions, AreNextTold, AreZero, Begins, if◌then◌else◌, listed, nat_lt, pos}
+use Rattle.sig_machine.proofs.Common.{◌≡◌, ◌≤◌, ◌+◌, ◌∙◌, ℕ, ℤ, false, List, length, replicate, slice_get, slice_index_or, Some, refl, sym, ap, subst, arith, length-replicate, Actor, AreFlowsFor, IsAccepted, PlanView, at_next, code_of, fitting, flow_count, initial_in, no_registers, opening_actor, truths_of, actor_at, cell, memories_at, memories_of, registers_of, taken_of, AreForSteps, AreVariables, HasActor, actor_in, seen_in, truths_in, IsMachineFor, ActorMachine, Machine, AbsentAreZero, AreInstructions, AreNextTold, AreZero, Begins, if◌then◌else◌, listed, nat_lt, pos, AreOwnBelow, Registers, WritesOwn}
 use Rattle.sig_machine.proofs.StepsWithMoreConstants.{are_within_more}
 use Rattle.sig_machine.proofs.Openings.{none_written, replicate_get, replicate_or}
 use Rattle.sig_machine.proofs.Told.{no_truths, truths_cleared}
@@ -17,10 +17,10 @@ module _ (plan : PlanView) (accepted : IsAccepted plan) (k : ℕ) (flows : List 
   inputs_there = let count = flow_count (fitting plan accepted flows fit) in omega (arith, count)
 
   pub opens : length plan.kernel.signals + length plan.kernel.signals ≤ length constants → AreZero (length plan.kernel.signals) constants → length a.last.items ≡ length constants
-      → AreInstructions plan.kernel.inputs (length constants) a.instructions → length (listed a.instructions) ≡ length (code_of plan k).steps
+      → AreOwnBelow (length plan.kernel.signals) a.own → WritesOwn a.own (length plan.kernel.signals) (listed a.instructions) → AreInstructions plan.kernel.inputs (length constants) a.instructions → length (listed a.instructions) ≡ length (code_of plan k).steps
       → AreForSteps plan (code_of plan k).steps constants (listed a.instructions) → AreVariables plan.clocks.conditions (length plan.kernel.signals) a.variables.items
       → AreNextTold (listed a.instructions) a.variables.items a.next_told.items → truths_in a ≡ replicate (length plan.clocks.conditions) false → HasActor plan k flows a
-  opens room cleared last instructions count each table next truths = record {
+  opens room cleared last below writes instructions count each table next truths = record {
     accepted = accepted;
     constants = constants;
     room = room;
@@ -34,6 +34,9 @@ module _ (plan : PlanView) (accepted : IsAccepted plan) (k : ℕ) (flows : List 
     };
     absent = λ signal below absent. ap (λ xs. cell xs signal) cells ∙ cleared signal (omega (arith, below, signals));
     last = last;
+    below = below;
+    writes = writes;
+    others = λ signal own. ap (λ (r : Registers). r signal) none;
     inputs = inputs_there;
     instructions = record { within = are_within_more plan.kernel.inputs (length flows) (length constants) (listed a.instructions) inputs_there instructions.within; coded = instructions.coded };
     count = count;
@@ -68,7 +71,7 @@ module _ (plan : PlanView) (k : ℕ) (flows : List (List ℤ)) (old new : ActorM
       let next : actor_at later 0 ≡ at_next (actor_in old step) = λ j. let actor : Actor = record (actor_at later 0) { registers = none_later j; memories = λ signal. memory_later signal j } in actor in
       ap (λ (m : Machine). actor_at m 0) machine ∙ next
 
-  pub next_is : new ≡ record old { machine = new.machine; last = new.last; truths = new.truths } → new.last.items ≡ old.machine.cells.items → truths_in new ≡ replicate (length (truths_in old)) false
+  pub next_is : new ≡ record old { machine = new.machine; last = new.last; truths = new.truths } → length new.last.items ≡ length old.last.items → truths_in new ≡ replicate (length (truths_in old)) false
       → HasActor plan k flows new
   next_is rest last truths = record {
     accepted = is.accepted;
@@ -83,7 +86,10 @@ module _ (plan : PlanView) (k : ℕ) (flows : List (List ℤ)) (old new : ActorM
       past = λ number stamp there. let before = is.machine.past number stamp there in omega (arith, before);
     });
     absent = subst (λ (m : Machine). AbsentAreZero m) (sym machine) (λ signal below none. begins.zero signal below);
-    last = ap length last ∙ is.machine.cells;
+    last = last ∙ is.last;
+    below = subst (λ (a : ActorMachine). AreOwnBelow (length plan.kernel.signals) a.own) (sym rest) is.below;
+    writes = subst (λ (a : ActorMachine). WritesOwn a.own (length plan.kernel.signals) (listed a.instructions)) (sym rest) is.writes;
+    others = λ signal own. ap (λ (r : Registers). r signal) (ap registers_of machine ∙ none_later);
     inputs = is.inputs;
     instructions = subst (λ (a : ActorMachine). AreInstructions (length flows) (length is.constants) a.instructions) (sym rest) is.instructions;
     count = ap (λ (a : ActorMachine). length (listed a.instructions)) rest ∙ is.count;

@@ -1,5 +1,5 @@
 -- What the proofs of this crate cite of std, of the crates below and of its own specs, passed on from one place.
-pub use Rattle.std.proofs.Common.{All, Bool, Contains, Err, FitsSigned, IfOk, IfSome, List, None, Ok, Option, Result, Some, [], ap, append_assoc, arith, cond, drop, eq-eqb, eqb-true, false, get_or, if◌then◌else◌, inl, inr, is_some, length, length-append, length-set, ltb-false, ltb-true, map, nat_lt, pos, refl, replicate, rules, set, slice_get, slice_index_or, subst, suc, sym, take, take_at, true, unwrap_or, w64, zero, ℕ, ℤ, ◌++◌, ◌+◌, ◌-◌, ◌<◌, ◌==◌, ◌∙◌, ◌∷◌, ◌≡◌, ◌≢◌, ◌≤◌, ◌⊎◌}
+pub use Rattle.std.proofs.Common.{All, Bool, Contains, Err, FitsSigned, IfOk, IfSome, List, None, Ok, Option, Result, Some, [], ap, append_assoc, arith, cond, drop, eq-eqb, eqb-true, false, get_or, if◌then◌else◌, inl, inr, is_some, length, length-append, length-set, ltb-false, ltb-true, map, nat_lt, not, pos, refl, replicate, rules, set, slice_get, slice_index_or, subst, suc, sym, take, take_at, true, unwrap_or, w64, zero, ℕ, ℤ, ◌++◌, ◌+◌, ◌-◌, ◌<◌, ◌==◌, ◌∙◌, ◌∷◌, ◌≡◌, ◌≢◌, ◌≤◌, ◌⊎◌, ◌&&◌, ◌||◌}
 pub use Rattle.std.proofs.lemmas.Bool.Decides.{eqb_tells}
 pub use Rattle.std.proofs.lemmas.List.{length-replicate, with_items_is}
 pub use Rattle.std.proofs.lemmas.Option.{slice_get-get_or as get_at, slice_get_past, slice_get_within as get_within}
@@ -29,13 +29,14 @@ pub use Rattle.sig_doing_laws.proofs.ReferenceInstant.{is_next, keeps, speaks}
 pub use Rattle.sig_doing_laws.proofs.Operated.{done_behind}
 pub use Rattle.sig_doing_laws.proofs.PassedOver.{passed_over}
 pub use Rattle.sig_doing_laws.proofs.Places.{one_at}
-pub use Rattle.sig_machine.specs.ActorMachines.{AreForSteps, DoesOp, HasActor, IsForKind, IsOpOfStep, IsStepDone, actor_in, instant_of, last_in, seen_in, truths_in}
+pub use Rattle.sig_machine.specs.ActorMachines.{AreForSteps, DoesOp, HasActor, IsForKind, IsOpOfStep, IsStepDone, actor_in, instant_of, is_kept, last_in, seen_in, truths_in}
 unfoldable pub use Rattle.sig_machine.specs.ActorMachines.{IsMachineOfActor}
 pub use Rattle.sig_machine.specs.Following.{AreFollowed, DoOperations, HasFault, IsFollowed}
 pub use Rattle.sig_machine.specs.Instants.{EndsBy, GoesOn, ended_behind}
 pub use Rattle.sig_machine.specs.Lowerings.{AreFor, AreGuardsOf, HasReads, HasShape, IsFor, IsTarget, IsWorkOf, Lowers, taken_by_form}
 pub use Rattle.sig_machine.specs.Machines.{AbsentAreZero, HaveConstants, IsMachineFor, IsMachineOf, actor_at, cell, memories_at, memories_of, registers_of, stamped, taken_of}
-pub use Rattle.sig_machine.specs.inner.OnCells.{AreZero, Begins, IsOnCells, cells_in}
+pub use Rattle.sig_machine.specs.inner.OnCells.{AreZero, Begins, IsOnCells, KeepsOwn, cells_in}
+pub use Rattle.sig_machine.specs.inner.Own.{AreKept, AreOwnBelow, WritesOwn, is_own}
 pub use Rattle.sig_machine.specs.inner.Sources.{AreBelow, Grows, IsCellOf, IsConstant, IsSource}
 pub use Rattle.sig_machine.specs.inner.Truths.{AreDifferent, AreEntered, AreNextFrom, AreNextTold, AreToldBetween, AreVariables, AreWithin, IsNextTold, TellNoneBetween, TellsBetween, TellsNone, told_at}
 pub use Rattle.sig_machine.specs.inner.Works.{IsKept, IsPut, as_named, came_to, named}
@@ -53,3 +54,4 @@ pub use Rattle.sig_cells.specs.declared.instruction.Work.TheVariants.{Copy, Next
 pub use Rattle.sig_cells.specs.declared.react.Fault.{Fault}
 pub use Rattle.sig_machine.specs.declared.lowered.Lowered.{Lowered}
 pub use Rattle.sig_machine.specs.declared.machine.Machine.{Machine}
+pub use Rattle.sig_machine.specs.declared.own.Own.{Own}

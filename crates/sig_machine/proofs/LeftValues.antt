@@ -1,5 +1,5 @@
 -- What the value of an instruction leaves is what its operation leaves.
-use Rattle.sig_machine.proofs.Common.{AbsentAreZero, eqb_tells, if◌then◌else◌, Bool, true, false, inl, inr, ◌≡◌, ◌<◌, ◌≤◌, ◌+◌, ◌==◌, ◌∙◌, ℕ, zero, suc, ℤ, pos, List, [], ◌∷◌, length, set, nat_lt, None, Option, Some, IfSome, is_some, refl, sym, ap, slice_get, slice_index_or, ltb-true, ltb-false, eqb-true, eq-eqb, length-set, arith, SigId, Kernel, PlanView, Op, OpKind, Read, Compute, Left, Right, DelayRead, Store, Actor, with_at, with_signal, operated, remembers, taken_by, input_of, IsTarget, Lowers, IsMachineFor, actor_at, cell, memories_at, memories_of, registers_of, stamped, taken_of, IsKept, input_taken, taken_after, Instruction, Work, Next, Copy, One, Two, Lowered, Machine}
+use Rattle.sig_machine.proofs.Common.{AbsentAreZero, eqb_tells, if◌then◌else◌, Bool, true, false, inl, inr, ◌≡◌, ◌<◌, ◌≤◌, ◌+◌, ◌==◌, ◌∙◌, ℕ, zero, suc, ℤ, pos, List, [], ◌∷◌, length, set, nat_lt, None, Option, Some, IfSome, is_some, refl, sym, ap, slice_get, slice_index_or, ltb-true, ltb-false, eqb-true, eq-eqb, length-set, arith, SigId, Kernel, PlanView, Op, OpKind, Read, Compute, Left, Right, DelayRead, Store, Actor, with_at, with_signal, operated, remembers, taken_by, input_of, IsTarget, Lowers, IsMachineFor, actor_at, cell, memories_at, memories_of, registers_of, stamped, taken_of, IsKept, input_taken, taken_after, Instruction, Work, Next, Copy, One, Two, Lowered, Machine, Own, is_own}
 
 -- ---- lists with another item
 
@@ -228,6 +228,15 @@ module _ (kernel : Kernel) (constants : List ℤ) (room : length kernel.signals 
         let before = past number stamp (ap (λ (xs : List ℕ). slice_get xs number) (sym kept.stamps) ∙ there) in
         let k = kept.instant in omega (arith, before, k);
   }
+
+  -- no other signal is written than those that an actor writes
+  pub others_behind : (own : Own) → (at < n → is_own own at ≡ true) → ((signal : ℕ) → is_own own signal ≡ false → registers_of old signal ≡ None)
+      → (signal : ℕ) → is_own own signal ≡ false → registers_of new signal ≡ None
+  others_behind own owned were signal none =
+      other_register signal (λ less same.
+      let yes = owned (omega (arith, less, same)) in
+      let clash : true ≡ false = sym yes ∙ ap (is_own own) (sym same) ∙ none in cc)
+      ∙ were signal none
 
   -- the cells of absent signals hold 0 still
   pub absent_behind : AbsentAreZero old → AbsentAreZero new

@@ -15,6 +15,7 @@ pub mod LeftValues
 pub mod KnownGuards
 pub mod Lists
 pub mod Openings
+pub mod OwnSignals
 pub mod Presence
 pub mod RowsOfActor
 pub mod Shapes
@@ -41,6 +42,7 @@ pub use LeftValues.*
 pub use KnownGuards.*
 pub use Lists.*
 pub use Openings.*
+pub use OwnSignals.*
 pub use Presence.*
 pub use RowsOfActor.*
 pub use Shapes.*

@@ -1,8 +1,9 @@
 -- The machine of one actor of a plan.
-use Rattle.std.specs.Prelude.{◌≡◌, ◌≤◌, ◌+◌, ◌-◌}
-use Rattle.sig_machine.specs.Prelude.{ℕ, ℤ, Bool, true, false, List, length, slice_get, Some, Kernel, PlanView, Step, StepKind, Do, OpId, Op, Actor, Registers, Cause, Faults, Gives, code_of, operated, outcome, truths_of, IsAccepted}
+use Rattle.std.specs.Prelude.{◌≡◌, ◌≤◌, ◌+◌, ◌-◌, ◌&&◌, if◌then◌else◌}
+use Rattle.sig_machine.specs.Prelude.{ℕ, ℤ, Bool, true, false, List, length, nat_lt, slice_get, None, Some, Kernel, PlanView, Step, StepKind, Do, OpId, Op, Actor, Registers, Cause, Faults, Gives, code_of, operated, outcome, truths_of, IsAccepted}
 use Rattle.sig_machine.specs.Lowerings.{IsFor}
 use Rattle.sig_machine.specs.Machines.{AbsentAreZero, IsMachineFor, actor_at, registers_of}
+use Rattle.sig_machine.specs.inner.Own.{AreOwnBelow, WritesOwn, is_own}
 use Rattle.sig_machine.specs.inner.Truths.{AreNextTold, AreVariables}
 use Rattle.sig_machine.specs.declared.actor.ActorMachine.{ActorMachine}
 use Rattle.sig_cells.specs.Instructions.{cells_of, registers_in}
@@ -12,12 +13,19 @@ use Rattle.sig_cells.specs.declared.instruction.Instruction.{Instruction}
 abbrev pub instant_of : ActorMachine → ℕ
 instant_of a = a.machine.instant
 
--- what each signal is in this instant, as far as it was written, and what it was in the one before, by the cells of that
+-- whether what is in the cell of a signal is kept for the next instant
+abbrev pub is_kept : ActorMachine → ℕ → Bool
+is_kept a signal = (nat_lt signal (length a.machine.cells.items) && nat_lt signal (length a.last.items)) && is_own a.own signal
+
+-- what each signal is in this instant, as far as it was written, and what it was in the one before, by the cells of that: they
+-- are kept for all signals that the actor writes, and those of the others are as they were
 abbrev pub seen_in : ActorMachine → Registers
 seen_in a = registers_of a.machine
 
 abbrev pub last_in : ActorMachine → Registers
-last_in a = registers_in a.machine.signals (a.machine.instant - 1) (cells_of a.last.items a.machine.stamps.items a.machine.taken.items)
+last_in a signal =
+    registers_in a.machine.signals (a.machine.instant - 1)
+    (cells_of (if is_kept a signal then a.last.items else a.machine.cells.items) a.machine.stamps.items a.machine.taken.items) signal
 
 -- the truths of the conditions
 abbrev pub truths_in : ActorMachine → List Bool
@@ -57,6 +65,10 @@ pub record HasActor (plan : PlanView) (k : ℕ) (flows : List (List ℤ)) (a : A
   pub machine : IsMachineFor (length plan.kernel.signals) constants flows a.machine
   pub absent : AbsentAreZero a.machine
   pub last : length a.last.items ≡ length constants
+  pub below : AreOwnBelow (length plan.kernel.signals) a.own
+  pub writes : WritesOwn a.own (length plan.kernel.signals) (listed a.instructions)
+  -- no other signal is written
+  pub others : (signal : ℕ) → is_own a.own signal ≡ false → registers_of a.machine signal ≡ None
   pub inputs : plan.kernel.inputs ≤ length flows
   pub instructions : AreInstructions (length flows) (length constants) a.instructions
   pub count : length (listed a.instructions) ≡ length (code_of plan k).steps

@@ -34,6 +34,7 @@ impl ActorMachine {
             → IsMachineOfActor plan k flows self.new }
     {
         if let Some(x) = target {
+            self.own = self.own.with(x.0);
             self.machine.put(x.0, value);
             self.tell(x.0, value);
         }

@@ -2,14 +2,15 @@
 
 ghost use Rattle.std.specs.Prelude.{◌≡◌, ◌+◌, ◌<◌, ◌≤◌, ◌^◌};
 ghost use Rattle.sig_machine.specs.Prelude.{ℕ, ℤ, List, length, PlanView, at_next};
-ghost use Rattle.sig_machine.specs.inner.OnCells.{Begins};
-ghost use Rattle.sig_machine.specs.ActorMachines.{IsMachineOfActor, actor_in, instant_of, last_in, seen_in, truths_in};
+ghost use Rattle.sig_machine.specs.ActorMachines.{IsMachineOfActor, actor_in, instant_of, is_kept, last_in, seen_in, truths_in};
+ghost use Rattle.sig_machine.specs.inner.Own.{AreKept};
+ghost use Rattle.sig_machine.specs.inner.OnCells.{KeepsOwn};
 
 use crate::machine::Machine;
+use crate::own::{Own, greatest, least};
 use crate::truths::forget;
 use sig_base::SigId;
 use sig_cells::Instructions;
-use std::mem::swap;
 
 /// What an actor of a plan has of each signal in the instant at which it is, what it remembers for each delay, and how
 /// many values of each input it has read, with the instructions of its code. Of the conditions it keeps the truths, which
@@ -17,7 +18,9 @@ use std::mem::swap;
 #[derive(Drop)]
 pub struct ActorMachine {
     pub(crate) machine: Machine,
-    /// The cells of the instant before.
+    /// The signals that it writes.
+    pub(crate) own: Own,
+    /// The cells of these in the instant before.
     pub(crate) last: Vec<i64>,
     /// By step of the code; what stands at a step that does no operation is never followed.
     pub(crate) instructions: Instructions,
@@ -50,7 +53,19 @@ impl ActorMachine {
         ensures { result ≡ last_in self.now x.0 }
     {
         let instant = self.machine.instant.saturating_sub(1);
-        self.machine.seen_at(x, instant, self.last.as_slice())
+        let cells = if self.keeps(x.0 as usize) {
+            self.last.as_slice()
+        } else {
+            self.machine.cells.as_slice()
+        };
+        self.machine.seen_at(x, instant, cells)
+    }
+
+    /// Whether the cell of a signal is kept for the next instant.
+    fn keeps(&self, signal: usize) -> bool
+        ensures { result ≡ is_kept self.now signal }
+    {
+        signal < self.machine.cells.len() && signal < self.last.len() && self.own.has(signal)
     }
 
     /// The truths of the conditions.
@@ -61,8 +76,8 @@ impl ActorMachine {
         self.truths.as_slice()
     }
 
-    /// Goes to the next instant, in which no signal is written yet: their cells are cleared, and what was in them is kept as
-    /// what they were last.
+    /// Goes to the next instant, in which no signal is written yet: the cells of those that the actor writes are cleared, and
+    /// what was in them is kept as what they were last.
     pub fn next_instant(&mut self)
         requires { instant_of self.old + 1 < 2 ^ 32 }
         ensures actor { (plan : PlanView) (k : ℕ) (flows : List (List ℤ)) → IsMachineOfActor plan k flows self.old
@@ -71,25 +86,37 @@ impl ActorMachine {
         ensures machine { (plan : PlanView) (k : ℕ) (flows : List (List ℤ)) → IsMachineOfActor plan k flows self.old
             → IsMachineOfActor plan k flows self.new }
     {
-        swap(&mut self.last, &mut self.machine.cells);
-        begin(
-            self.machine.cells.as_mut_slice(),
-            self.last.as_slice(),
-            self.machine.signals,
-        );
+        self.keep_own();
         self.machine.instant += 1;
         forget(self.truths.as_mut_slice());
     }
+
+    /// Keeps the cells of the signals that the actor writes, and clears them.
+    #[inline(always)]
+    fn keep_own(&mut self)
+        ensures kept { KeepsOwn self.old self.new }
+        ensures stays { self.new ≡ record self.old { machine = record self.old.machine { cells = self.new.machine.cells }; last = self.new.last } }
+    {
+        let own = self.own;
+        let most = least(self.machine.cells.len(), self.last.len());
+        let head = least(own.head, most);
+        let first = greatest(own.head, own.first);
+        let end = least(own.end, most);
+        let cells = self.machine.cells.as_mut_slice();
+        let last = self.last.as_mut_slice();
+        keep_cells(cells, last, 0, head);
+        keep_cells(cells, last, first, end);
+    }
 }
 
-/// Takes over the cells of the instant before, but those of so many signals, which are cleared.
-fn begin(cells: &mut [i64], last: &[i64], signals: usize)
-    ensures { signals ≤ length last.now → length cells.old ≡ length last.now → Begins signals last.now cells.new }
+/// Keeps the cells from one on up to another one, and clears them.
+fn keep_cells(cells: &mut [i64], last: &mut [i64], from: usize, to: usize)
+    requires cells { to ≤ length cells.old }
+    requires last { to ≤ length last.old }
+    ensures { AreKept from to cells.old last.old cells.new last.new }
 {
-    if signals > last.len() || cells.len() != last.len() {
-        return;
+    for number in from..to {
+        last[number] = cells[number];
+        cells[number] = 0;
     }
-    let (own, others) = cells.split_at_mut(signals);
-    own.fill(0);
-    others.copy_from_slice(last.split_at(signals).1);
 }

@@ -10,6 +10,7 @@ mod lowering;
 mod machine;
 mod opening;
 mod outcomes;
+mod own;
 mod plans;
 mod react;
 mod row;

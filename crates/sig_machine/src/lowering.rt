@@ -11,7 +11,7 @@ use crate::lowered::Lowered;
 use crate::plans::{conditions_of, kernel_of, op_at, order_of, store_of};
 use crate::sources::{constant, work_of_form};
 use sig_base::SigId;
-use sig_cells::{Code, Instruction, Work};
+use sig_cells::{GuardedCode, Instruction, Work};
 use sig_dd::Ref;
 use sig_kernel::Kernel;
 use sig_plan::{Op, OpKind, Plan};
@@ -27,7 +27,7 @@ pub fn lower(alloc: Global, plan: &Plan) -> Result<Lowered, AllocError>
     let mut cells = opening_cells(alloc, kernel)?;
     let guards = guards_of(alloc, plan)?;
     let instructions = instructions_of(alloc, plan, &mut cells)?;
-    let code = Code::new(
+    let code = GuardedCode::new(
         alloc,
         store_of(plan),
         conditions_of(plan),

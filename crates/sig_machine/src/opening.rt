@@ -7,6 +7,7 @@ ghost use Rattle.sig_machine.specs.ActorMachines.{IsMachineOfActor, actor_in};
 use crate::actor::ActorMachine;
 use crate::lowering::{opening_cells, zeros};
 use crate::machine::{Machine, untaken, unwritten};
+use crate::own::own_of;
 use crate::plans::{conditions_of, kernel_of, steps_of};
 use crate::steps::instructions_of;
 use crate::truths::{falses, next_told_of, variables_of};
@@ -37,12 +38,14 @@ impl ActorMachine {
         let listed = instructions_of(alloc, plan, steps_of(plan, actor), &mut cells)?;
         let variables = variables_of(alloc, conditions, signals)?;
         let next_told = next_told_of(alloc, listed.as_slice(), variables.as_slice())?;
+        let own = own_of(kernel, listed.as_slice());
         let instructions = Instructions::new(alloc, listed)?;
         let last = zeros(alloc, cells.len())?;
         let machine = machine_on(alloc, signals, cells, inputs.as_slice().len())?;
         let truths = falses(alloc, conditions.len())?;
         Ok(ActorMachine {
             machine,
+            own,
             last,
             instructions,
             next_told,

@@ -1,5 +1,5 @@
 -- What calls do, by the turn of their actor.
-use Rattle.sig_step.proofs.Common.{◌≡◌, ◌<◌, ◌+◌, ◌∙◌, ℕ, suc, ℤ, Bool, true, false, List, length, nat_lt, get_or, slice_get, if◌then◌else◌, Option, None, Some, refl, sym, ap, arith, slice_get-get_or, unwrap_or, Kernel, Actor, code_of, no_code, no_registers, Turn, reaction_in, turn_by, CodeView, PlanView, Commit, commit_last, Acts, TakesTurn, Asks, BothTell, Nothing, Past, PastGoesOn, Queues, QueuesGoOn, IsReady, MovesOn, actor_of, Finds, NamesNoLink, Acted, AtTheLimit, CommitDone, Done, Empty, Failed, Full, HasStopped, ClusterState, instant_of}
+use Rattle.sig_step.proofs.Common.{◌≡◌, ◌<◌, ◌+◌, ◌∙◌, ℕ, suc, ℤ, Bool, true, false, List, length, nat_lt, get_or, slice_get, if◌then◌else◌, Option, None, Some, refl, sym, ap, arith, slice_get-get_or, unwrap_or, Kernel, Actor, code_of, no_code, no_registers, Turn, reaction_in, turn_by, CodeView, PlanView, Commit, commit_last, Acts, TakesTurn, Asks, BothTell, Nothing, Past, PastGoesOn, Queues, QueuesGoOn, IsReady, MovesOn, actor_of, Finds, NamesNoLink, Acted, CommitDone, Empty, Full, ClusterState, instant_of}
 
 -- ends that were asked nothing
 past_stays : (told : Option Past) → BothTell (PastGoesOn Nothing) told told
@@ -23,11 +23,7 @@ module _ {E : Type 0} (past : E → Option Past) (queues : E → Option Queues) 
 pub finds_none : {E : Type 0} (found_full found_empty : ℕ → E → E → Type 0) (acted : Acted) → NamesNoLink acted → (ends : E) → Finds found_full found_empty acted ends ends
 finds_none found_full found_empty (Full j) names ends = absurd names
 finds_none found_full found_empty (Empty j) names ends = absurd names
-finds_none found_full found_empty Done names ends = tt
-finds_none found_full found_empty CommitDone names ends = tt
-finds_none found_full found_empty (Failed place) names ends = tt
-finds_none found_full found_empty AtTheLimit names ends = tt
-finds_none found_full found_empty HasStopped names ends = tt
+finds_none found_full found_empty other names ends = tt
 
 -- the code of an actor is there
 pub coded : (plan : PlanView) (k : ℕ) → k < length plan.codes → slice_get plan.codes k ≡ Some (code_of plan k)

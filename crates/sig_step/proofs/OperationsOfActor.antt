@@ -1,5 +1,5 @@
 -- Operations that an actor does.
-use Rattle.sig_step.proofs.Common.{◌≡◌, ◌∙◌, ℕ, ℤ, Bool, true, List, length, slice_get, Option, None, Some, refl, sym, ap, subst, OpId, SigId, Place, Kernel, Actor, code_of, moved_on, next_place, Faults, Gives, Outcome, memory_of, operated, outcome, outcome_by, fills, target_of_op, FillsAt, Fails, Goes, Turn, turn_by, turn_of_op, turn_with, PlanView, Do, Cause, Op, OpKind, Read, Compute, Left, Right, DelayRead, Store, Acts, Nothing, IsReady, MayGoOn, MovesOn, actor_of, cause_by, cause_of_op, place_of, Acted, Done, Failed, ClusterState, IsMachineOfActor, IsOpOfStep, NamesWithin, StepKind, step_names, ◌<◌, actor_in, instant_of, ActorMachine, some_at}
+use Rattle.sig_step.proofs.Common.{◌≡◌, ◌∙◌, ℕ, ℤ, Bool, true, List, length, slice_get, Option, None, Some, refl, sym, ap, subst, OpId, SigId, Place, Kernel, Actor, code_of, moved_on, next_place, Faults, Gives, Outcome, memory_of, operated, outcome, outcome_by, fills, target_of_op, FillsAt, Fails, Goes, Turn, turn_by, turn_of_op, turn_with, PlanView, Do, Cause, Op, OpKind, DelayRead, Acts, Nothing, IsReady, MayGoOn, MovesOn, actor_of, cause_by, cause_of_op, place_of, Acted, Done, Failed, ClusterState, IsMachineOfActor, IsOpOfStep, NamesWithin, StepKind, step_names, ◌<◌, actor_in, instant_of, ActorMachine, some_at}
 use Rattle.sig_step.proofs.StateLemmas.{may_with}
 use Rattle.sig_step.proofs.CallsByTurn.{coded}
 
@@ -11,12 +11,8 @@ same_memory actor ended (Some y) = refl
 -- what an operation comes to does not depend on whether the actor has ended
 outcome_of_kind : (kernel : Kernel) (flows : List (List ℤ)) (actor : Actor) (ended : Bool) (op : Op) (kind : OpKind)
     → outcome_by kernel flows (record actor { ended = ended }) op kind ≡ outcome_by kernel flows actor op kind
-outcome_of_kind kernel flows actor ended op (Read x) = refl
-outcome_of_kind kernel flows actor ended op Compute = refl
-outcome_of_kind kernel flows actor ended op Left = refl
-outcome_of_kind kernel flows actor ended op Right = refl
 outcome_of_kind kernel flows actor ended op DelayRead = same_memory actor ended op.writes
-outcome_of_kind kernel flows actor ended op (Store e) = refl
+outcome_of_kind kernel flows actor ended op other = refl
 
 pub same_outcome : (kernel : Kernel) (flows : List (List ℤ)) (s : ClusterState) (op : Op)
     → outcome kernel flows (actor_of s) op ≡ outcome kernel flows (actor_in s.values s.step) op

@@ -15,13 +15,10 @@ moved_amid count a b instant ended = by (nat_lt (b.step + 1) count) where
 module _ (plan : PlanView) (flows : List (List ℤ)) (k : ℕ) (a : Actor) where
   -- what a turn does to its actor
   abbrev pub TurnStaysAmid : Turn → Type 0
-  TurnStaysAmid Stopped = Unit {0}
-  TurnStaysAmid AtLimit = Unit {0}
-  TurnStaysAmid (Fails place) = Unit {0}
   TurnStaysAmid (Goes next) = StaysAmid a next
-  TurnStaysAmid (Commits reaction next) = Unit {0}
   TurnStaysAmid (Puts j item next) = StaysAmid a next
   TurnStaysAmid (Takes j next) = (item : ℤ) → StaysAmid a (next item)
+  TurnStaysAmid other = Unit {0}
 
   abbrev count : ℕ
   count = length (code_of plan k).steps

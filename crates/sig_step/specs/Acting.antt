@@ -38,11 +38,7 @@ pub record TakesTurn {E : Type 0} (past : E → Option Past) (queues : E → Opt
 abbrev pub Finds : {E : Type 0} → (ℕ → E → E → Type 0) → (ℕ → E → E → Type 0) → Acted → E → E → Type 0
 Finds found_full found_empty (Full j) before after = found_full j before after
 Finds found_full found_empty (Empty j) before after = found_empty j before after
-Finds found_full found_empty Done before after = Unit {0}
-Finds found_full found_empty Commit before after = Unit {0}
-Finds found_full found_empty (Failed place) before after = Unit {0}
-Finds found_full found_empty AtTheLimit before after = Unit {0}
-Finds found_full found_empty HasStopped before after = Unit {0}
+Finds found_full found_empty other before after = Unit {0}
 
 -- what a call answers of an operation: it was done, or it has no value
 abbrev pub done_as : {U : Type 0} → Result U Place → Acted
@@ -53,11 +49,7 @@ done_as (Err place) = Failed place
 abbrev pub NamesNoLink : Acted → Type 0
 NamesNoLink (Full j) = ⊥
 NamesNoLink (Empty j) = ⊥
-NamesNoLink Done = Unit {0}
-NamesNoLink Commit = Unit {0}
-NamesNoLink (Failed place) = Unit {0}
-NamesNoLink AtTheLimit = Unit {0}
-NamesNoLink HasStopped = Unit {0}
+NamesNoLink other = Unit {0}
 
 -- a count of visited nodes rises by no more than the variables that a guard needs
 pub record CountsNeeds (nodes : List Node) (guard : Ref) (before after : ℕ) : Type 0 where

@@ -53,13 +53,11 @@ OthersStay link before after = (other : ℕ) → other ≢ link → after other 
 
 -- what was sent and taken, before and after
 abbrev pub PastGoesOn : Asked → Past → Past → Type 0
-PastGoesOn Nothing before after = AllStay before after
-PastGoesOn (FoundFull link) before after = AllStay before after
-PastGoesOn (FoundEmpty link) before after = AllStay before after
 PastGoesOn (Pushed link item) before after =
     (after link ≡ record (before link) { sent = (before link).sent ++ item ∷ [] }) × OthersStay link before after
 PastGoesOn (Popped link item) before after =
     (after link ≡ record (before link) { taken = (before link).taken ++ item ∷ [] }) × OthersStay link before after
+PastGoesOn other before after = AllStay before after
 
 -- what the links hold, before and after: an item is refused where there is no room, and given where there is one
 abbrev pub QueuesGoOn : Asked → Queues → Queues → Type 0

@@ -3,7 +3,7 @@ use Rattle.std.specs.Prelude.{◌≡◌, ◌≤◌}
 use Rattle.sig_step.specs.Prelude.{ℕ, ℤ, List, false, length, slice_get, Some, code_of, moved_on, position_of, IsRunnable, IsAccepted, PlanView, Step, StepKind, IsMachineOfActor, instant_of, last_in, seen_in}
 use Rattle.sig_step.specs.States.{IsStateOf, actor_of}
 use Rattle.sig_step.specs.declared.answer.Acted.{Acted}
-use Rattle.sig_step.specs.declared.answer.Acted.TheVariants.{Done, Commit, Empty, Full, Failed, AtLimit, Stopped}
+use Rattle.sig_step.specs.declared.answer.Acted.TheVariants.{Empty, Full}
 use Rattle.sig_step.specs.declared.state.ClusterState.{ClusterState}
 use Rattle.sig_step.specs.declared.state.Mark.{Mark}
 
@@ -19,11 +19,7 @@ IsMet plan s = (step : Step) → slice_get (code_of plan s.actor).steps s.step �
 abbrev pub StaysMet : PlanView → Acted → ClusterState → Type 0
 StaysMet plan (Empty j) s = IsMet plan s
 StaysMet plan (Full j) s = IsMet plan s
-StaysMet plan Done s = Unit {0}
-StaysMet plan Commit s = Unit {0}
-StaysMet plan (Failed place) s = Unit {0}
-StaysMet plan AtLimit s = Unit {0}
-StaysMet plan Stopped s = Unit {0}
+StaysMet plan other s = Unit {0}
 
 -- A state within its limit may go on once the guard of its next step was met.
 pub record MayGoOn (plan : PlanView) (flows : List (List ℤ)) (s : ClusterState) : Type 0 where

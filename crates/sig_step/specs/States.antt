@@ -1,6 +1,6 @@
 -- What the state of an actor means, and when it is one of an actor of a plan.
 use Rattle.std.specs.Prelude.{◌≡◌, ◌<◌, ◌≤◌, ◌+◌, ◌^◌, ◌==◌, if◌then◌else◌}
-use Rattle.sig_step.specs.Prelude.{ℕ, ℤ, Bool, true, List, length, slice_get, Option, None, Some, Place, Kernel, Actor, Registers, code_of, position_of, slot_holds, truths_of, Faults, Gives, Outcome, outcome, Reaction, reaction_in, PlanView, Step, StepKind, Do, Send, Receive, Report, Collect, Commit, Cause, Limit, Op, OpId, IsMachineOfActor, actor_in, instant_of, last_in, seen_in}
+use Rattle.sig_step.specs.Prelude.{ℕ, ℤ, Bool, true, List, length, slice_get, Option, None, Some, Place, Kernel, Actor, Registers, code_of, position_of, slot_holds, truths_of, Faults, Gives, Outcome, outcome, Reaction, reaction_in, PlanView, Step, StepKind, Do, Cause, Limit, Op, OpId, IsMachineOfActor, actor_in, instant_of, last_in, seen_in}
 use Rattle.sig_step.specs.declared.state.ClusterState.{ClusterState}
 use Rattle.sig_step.specs.declared.state.Mark.{Mark}
 
@@ -106,11 +106,7 @@ cause_of_op plan flows actor (Some op) = cause_by (outcome plan.kernel flows act
 -- why a step of this kind has no value; the limit, where it does no operation
 abbrev pub cause_of_kind : PlanView → List (List ℤ) → Actor → StepKind → Cause
 cause_of_kind plan flows actor (Do o) = cause_of_op plan flows actor (slice_get plan.ops o.0)
-cause_of_kind plan flows actor (Send j) = Limit
-cause_of_kind plan flows actor (Receive j) = Limit
-cause_of_kind plan flows actor (Report j) = Limit
-cause_of_kind plan flows actor (Collect j) = Limit
-cause_of_kind plan flows actor Commit = Limit
+cause_of_kind plan flows actor other = Limit
 
 abbrev pub cause_at : PlanView → List (List ℤ) → Actor → Option Step → Cause
 cause_at plan flows actor None = Limit

@@ -47,7 +47,7 @@ impl ClusterState {
         while left > 0 {
             left -= 1;
             left -= self.go_on(plan, inputs, code, left);
-            let acted = self.act_within(plan, inputs, code, ends, steps);
+            let acted = self.take_step(plan, inputs, code, ends, steps);
             if !self.is_amid(acted) {
                 return acted;
             }
@@ -68,10 +68,13 @@ impl ClusterState {
     {
         plans_can_run(plan);
         let step = self.next_step_in(plan, code);
+        let row = self.rows[self.step as usize] - self.step;
+        if row == 0 {
+            return 0;
+        }
         if !self.is_on(step.slot) {
             return 0;
         }
-        let row = self.rows[self.step as usize] - self.step;
         let count = if row < most { row } else { most };
         let done = self
             .values
@@ -114,28 +117,6 @@ impl ClusterState {
         ensures pops { E.pops ends.new ≡ E.pops ends.old }
     {
         self.act(plan, inputs, ends, steps)
-    }
-
-    /// Does the next step within the limit.
-    #[inline(always)]
-    fn act_within<E: Ends, L: Ledger>(
-        &mut self,
-        plan: &Plan,
-        inputs: &Inputs,
-        code: &[Step],
-        ends: &mut E,
-        steps: &mut Steps<L>,
-    ) -> Acted
-        requires state { IsStateOf plan.now inputs.now self.old }
-        requires runs { self.old.ended ≡ false }
-        requires within { instant_of self.old.values ≤ self.old.limit }
-        requires links { MayUse plan.now self.old.actor (E.pushes ends.old) (E.pops ends.old) }
-        requires code { code.now ≡ (code_of plan.now self.old.actor).steps }
-        ensures does { DoesStep E.past E.queues E.found_full E.found_empty E.same plan.now inputs.now result self.old self.new ends.old ends.new steps.old steps.new }
-        ensures pushes { E.pushes ends.new ≡ E.pushes ends.old }
-        ensures pops { E.pops ends.new ≡ E.pops ends.old }
-    {
-        self.take_step(plan, inputs, code, ends, steps)
     }
 
     /// Whether a step was done behind which another one of the same instant comes.

@@ -21,5 +21,6 @@ mod step;
 
 pub use answer::{Acted, StepAnswer};
 pub use ends::Ends;
+pub use plans::{actors_in, ops_of, order_of, plans_are_accepted};
 pub use sharing::states_may_be_moved;
 pub use state::ClusterState;

@@ -4,7 +4,7 @@ ghost use Rattle.std.specs.Prelude.{◌≡◌, ◌<◌};
 ghost use Rattle.sig_step.specs.Prelude.{length, slice_get, code_of, carried, IsAccepted};
 ghost use Rattle.sig_step.specs.Moving.{CanRun};
 
-use sig_base::SigId;
+use sig_base::{OpId, SigId};
 use sig_kernel::Kernel;
 use sig_plan::{Code, Op, Plan};
 use sig_schedule_laws::accepted_plans_are_runnable;
@@ -25,8 +25,31 @@ pub(crate) fn kernel_of(plan: &Plan) -> &Kernel
     &plan.kernel
 }
 
+/// A law: each plan is an accepted one.
+#[inline(always)]
+pub fn plans_are_accepted(plan: &Plan)
+    ensures { IsAccepted plan.now }
+{
+    // What holds of every plan is known where its fields are read.
+    let _kernel = &plan.kernel;
+}
+
+/// How many actors a plan has; the collector is the last.
+pub fn actors_in(plan: &Plan) -> usize
+    ensures { result ≡ length plan.now.codes }
+{
+    plan.codes.len()
+}
+
+/// The order of the operations of a plan.
+pub fn order_of(plan: &Plan) -> &[OpId]
+    ensures { result.now ≡ plan.now.order }
+{
+    plan.order.as_slice()
+}
+
 /// The operations of a plan.
-pub(crate) fn ops_of(plan: &Plan) -> &[Op]
+pub fn ops_of(plan: &Plan) -> &[Op]
     ensures { result.now ≡ plan.now.ops }
 {
     plan.ops.as_slice()

@@ -3,6 +3,7 @@
 ghost use Rattle.std.specs.Prelude.{◌≡◌, ◌≤◌, if◌then◌else◌};
 ghost use Rattle.sig_step.specs.Prelude.{ℕ, false, length, slice_get, code_of, moved_on, Goes, turn, turn_at, turn_by, instant_of};
 ghost use Rattle.sig_step.specs.Acting.{Counts, CountsNone, Finds, MayDo, MayUse, TakesTurn};
+ghost use Rattle.sig_step.specs.GoingOn.{DoesStep};
 ghost use Rattle.sig_step.specs.Moving.{IsReady, IsSameActor, StaysMet};
 ghost use Rattle.sig_step.specs.States.{IsStateOf, actor_of};
 
@@ -67,16 +68,9 @@ impl ClusterState {
         requires within { instant_of self.old.values ≤ self.old.limit }
         requires links { MayUse plan.now self.old.actor (E.pushes ends.old) (E.pops ends.old) }
         requires code { code.now ≡ (code_of plan.now self.old.actor).steps }
-        ensures state { IsStateOf plan.now inputs.now self.new }
-        ensures same { IsSameActor self.old self.new }
-        ensures turn { TakesTurn E.past E.queues plan.now.kernel (turn_at plan.now inputs.now (code_of plan.now self.old.actor) (actor_of self.old) (slice_get (code_of plan.now self.old.actor).steps self.old.step))
-            result self.old self.new ends.old ends.new }
-        ensures found { Finds E.found_full E.found_empty result ends.old ends.new }
-        ensures ends { E.same ends.old ends.new }
-        ensures met { StaysMet plan.now result self.new }
+        ensures does { DoesStep E.past E.queues E.found_full E.found_empty E.same plan.now inputs.now result self.old self.new ends.old ends.new steps.old steps.new }
         ensures pushes { E.pushes ends.new ≡ E.pushes ends.old }
         ensures pops { E.pops ends.new ≡ E.pops ends.old }
-        ensures counts { Counts plan.now self.old steps.old steps.new }
     {
         plans_can_run(plan);
         let step = self.next_step_in(plan, code);

@@ -1,4 +1,4 @@
-use Rattle.sig_step.proofs.{subst, IsStepDone, does_op, done_may_go_on, op_done, op_failed_with, op_there, state_ended}
+use Rattle.sig_step.proofs.{rules, subst, IsStepDone, does_op, done_may_go_on, op_done, op_failed_with, op_there, state_ended}
 use Rattle.sig_step.proofs.state.ClusterState.do_operation.Goals as goal
 
 pub follow-requires-clause-op : goal.follow-requires-clause-op
@@ -14,35 +14,26 @@ move_on-requires-clause-may c =
     let done = subst (λ b. IsStepDone plan.kernel c.args.inputs.now op b s.values c.follow.new.self) c.if-follow.true (c.follow.ensures.done op (does_op plan c.args.inputs.now s c.args._o c.requires.ready op there)) in
     (c.args.inputs.now, done_may_go_on plan c.args.inputs.now s c.args._o c.requires.ready op there c.follow.new.self done.0 done.2 c.follow.ensures.machine)
 
-pub returns-then-follow-clause-acts : goal.returns-then-follow-clause-acts
-returns-then-follow-clause-acts c =
+pub returns-then-follow : goal.returns-then-follow
+returns-then-follow c =
     let plan = c.args.plan.now in
     let s = c.args.self.now in
     let (op, there) = op_there plan c.args.inputs.now s c.args._o c.requires.ready in
     let done = subst (λ b. IsStepDone plan.kernel c.args.inputs.now op b s.values c.follow.new.self) c.if-follow.true (c.follow.ensures.done op (does_op plan c.args.inputs.now s c.args._o c.requires.ready op there)) in
-    op_done plan c.args.inputs.now s c.args._o c.requires.ready op there c.follow.new.self done.0 done.2 done.1 c.move_on.new.self c.move_on.ensures.moves
+    record {
+      acts = op_done plan c.args.inputs.now s c.args._o c.requires.ready op there c.follow.new.self done.0 done.2 done.1 c.move_on.new.self c.move_on.ensures.moves;
+      state = c.move_on.ensures.state c.args.inputs.now (done_may_go_on plan c.args.inputs.now s c.args._o c.requires.ready op there c.follow.new.self done.0 done.2 c.follow.ensures.machine);
+      same = search rules;
+    }
 
-pub returns-then-follow-clause-state : goal.returns-then-follow-clause-state
-returns-then-follow-clause-state c =
-    let plan = c.args.plan.now in
-    let s = c.args.self.now in
-    let (op, there) = op_there plan c.args.inputs.now s c.args._o c.requires.ready in
-    let done = subst (λ b. IsStepDone plan.kernel c.args.inputs.now op b s.values c.follow.new.self) c.if-follow.true (c.follow.ensures.done op (does_op plan c.args.inputs.now s c.args._o c.requires.ready op there)) in
-    c.move_on.ensures.state c.args.inputs.now
-    (done_may_go_on plan c.args.inputs.now s c.args._o c.requires.ready op there c.follow.new.self done.0 done.2 c.follow.ensures.machine)
-
-pub returns-else-follow-clause-acts : goal.returns-else-follow-clause-acts
-returns-else-follow-clause-acts c =
+pub returns-else-follow : goal.returns-else-follow
+returns-else-follow c =
     let plan = c.args.plan.now in
     let s = c.args.self.now in
     let (op, there) = op_there plan c.args.inputs.now s c.args._o c.requires.ready in
     let done = subst (λ b. IsStepDone plan.kernel c.args.inputs.now op b s.values c.follow.new.self) c.if-follow.false (c.follow.ensures.done op (does_op plan c.args.inputs.now s c.args._o c.requires.ready op there)) in
-    op_failed_with plan c.args.inputs.now s c.args._o c.requires.ready op there done.0 done.1 c.follow.new.self done.2 c.next_place.result c.next_place.ensures
-
-pub returns-else-follow-clause-state : goal.returns-else-follow-clause-state
-returns-else-follow-clause-state c =
-    let plan = c.args.plan.now in
-    let s = c.args.self.now in
-    let (op, there) = op_there plan c.args.inputs.now s c.args._o c.requires.ready in
-    let done = subst (λ b. IsStepDone plan.kernel c.args.inputs.now op b s.values c.follow.new.self) c.if-follow.false (c.follow.ensures.done op (does_op plan c.args.inputs.now s c.args._o c.requires.ready op there)) in
-    state_ended plan c.args.inputs.now s c.requires.ready.may.state c.follow.new.self done.2
+    record {
+      acts = op_failed_with plan c.args.inputs.now s c.args._o c.requires.ready op there done.0 done.1 c.follow.new.self done.2 c.next_place.result c.next_place.ensures;
+      state = state_ended plan c.args.inputs.now s c.requires.ready.may.state c.follow.new.self done.2;
+      same = search rules;
+    }

@@ -1,4 +1,4 @@
-use Rattle.sig_step.proofs.{◌≡◌, ◌<◌, ◌≤◌, ◌+◌, ◌∙◌, ℕ, true, refl, ap, arith, code_of, known_holds, length, position_of, row_operates, slice_get, slice_get_read, stretch_over, List, Some, ClusterState, IsKnown, IsRow, IsStateOf, PlanView, Step, ℤ}
+use Rattle.sig_step.proofs.{◌≡◌, ◌<◌, ◌≤◌, ◌+◌, ◌∙◌, ℕ, true, refl, ap, arith, code_of, known_holds, length, position_of, row_operates, slice_get, slice_get_read, stretch_over, List, Some, ClusterState, IsKnown, IsRow, IsStateOf, PassesOver, PlanView, Step, ℤ}
 use Rattle.sig_step.proofs.state.ClusterState.go_on.Goals.{then-row-most, else-row-most}
 use Rattle.sig_step.proofs.state.ClusterState.go_on.Goals as goal
 
@@ -6,8 +6,15 @@ use Rattle.sig_step.proofs.state.ClusterState.go_on.Goals as goal
 row_here : (plan : PlanView) (flows : List (List ℤ)) (s : ClusterState) → IsStateOf plan flows s → (to : ℕ) → (s.step < length s.rows.items → slice_get s.rows.items s.step ≡ Some to) → IsRow (code_of plan s.actor).steps s.step to
 row_here plan flows s state to at = state.rows s.step to (at (let below = state.step in let count = state.row_count in omega (arith, below, count)))
 
+-- no step is done
+none_over : (plan : PlanView) (flows : List (List ℤ)) (s : ClusterState) → IsStateOf plan flows s → (over : PassesOver plan flows s s) × (over.count ≡ 0)
+none_over plan flows s state = (record { count = 0; turns = refl; state = state; actor = record { actor = refl; limit = refl }; ended = refl; instant = refl }, refl)
+
+pub returns-then-row-eq0-clause-over : goal.returns-then-row-eq0-clause-over
+returns-then-row-eq0-clause-over c = none_over c.args.plan.now c.args.inputs.now c.args.self.now c.requires.state
+
 pub returns-then-not-is_on-clause-over : goal.returns-then-not-is_on-clause-over
-returns-then-not-is_on-clause-over c = (record { count = 0; turns = refl; state = c.requires.state; actor = record { actor = refl; limit = refl }; ended = refl; instant = refl }, refl)
+returns-then-not-is_on-clause-over c = none_over c.args.plan.now c.args.inputs.now c.args.self.now c.requires.state
 
 pub overflow_sub-row : goal.overflow_sub-row
 overflow_sub-row c =
