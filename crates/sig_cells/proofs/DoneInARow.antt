@@ -1,5 +1,5 @@
 -- Instructions that are done in a row.
-use Rattle.std.proofs.Common.{[], ◌∷◌, ◌≡◌, ◌<◌, ◌+◌, ◌∙◌, ◌⊎◌, inl, inr, ℕ, zero, suc, ℤ, pos, List, length, Option, None, Some, IfSome, IsSomeAnd, refl, sym, ap, subst, arith, slice_get, slice_index_or, set, length-set}
+use Rattle.std.proofs.Common.{[], ◌∷◌, ◌≡◌, ◌<◌, ◌≤◌, ◌+◌, ◌-◌, ◌∙◌, ◌⊎◌, inl, inr, ℕ, zero, suc, ℤ, pos, List, length, Option, None, Some, IfSome, IsSomeAnd, refl, sym, ap, subst, arith, slice_get, slice_index_or, set, length-set}
 use Rattle.std.proofs.lemmas.List.{get_or-set_other}
 use Rattle.std.proofs.lemmas.Bool.Decides.{eqb_tells}
 use Rattle.std.proofs.lemmas.Option.{same_Some, slice_get-get_or as get_at}
@@ -15,7 +15,7 @@ use Rattle.sig_cells.specs.declared.coded.Opcode.{Opcode}
 use Rattle.sig_cells.specs.declared.instruction.Instruction.{Instruction}
 use Rattle.sig_cells.specs.declared.instructions.Instructions.{Instructions}
 use Rattle.sig_cells.specs.declared.instruction.Work.{Work}
-use Rattle.sig_cells.specs.declared.instruction.Work.TheVariants.{Copy, Next, One, Two}
+use Rattle.sig_cells.specs.declared.instruction.Work.TheVariants.{Next}
 use Rattle.sig_plan.specs.declared.ended.Cause.{Cause}
 
 -- ---- where they go to
@@ -50,19 +50,25 @@ module _ (instructions : List Instruction) (flows : List (List ℤ)) (instant : 
     does = does_further from goes.count on.count s t u goes.does (subst (λ (p : ℕ). Does instructions flows instant p on.count t u) (sym goes.ends) on.does);
   }
 
+-- so many before the end of a stretch
+pub left_within : (from to left count : ℕ) → left ≤ to - from → from ≤ to → to ≤ count → 0 < left → to - left < count
+left_within from to left count some forth within more = omega arith
+
+pub left_first : (from to : ℕ) → from ≤ to → from ≡ to - (to - from)
+left_first from to forth = omega arith
+
+pub left_next : (from to left : ℕ) → left ≤ to - from → from ≤ to → 0 < left → to - left + 1 ≡ to - (left - 1)
+left_next from to left some forth more = omega arith
+
 -- ---- what they keep
 
 pub taken_stays : (work : Work) (taken : List ℕ) → input_taken work ≡ None → taken_after work taken ≡ taken
 taken_stays (Next input) taken stays = absurd (let some : Some (input_id input) ≡ None = stays in cc)
-taken_stays (Copy source) taken stays = refl
-taken_stays (One function a) taken stays = refl
-taken_stays (Two function a b) taken stays = refl
+taken_stays other taken stays = refl
 
 after_count : (work : Work) (taken : List ℕ) → length (taken_after work taken) ≡ length taken
 after_count (Next input) taken = length-set taken input (slice_index_or taken input 0 + 1)
-after_count (Copy source) taken = refl
-after_count (One function a) taken = refl
-after_count (Two function a b) taken = refl
+after_count other taken = refl
 
 -- in a list of which one item was set, each is as before, or what was set
 was_or_set : (xs : List ℕ) (k x number stamp : ℕ) → slice_get (set xs k x) number ≡ Some stamp → (slice_get xs number ≡ Some stamp) ⊎ (stamp ≡ x)

@@ -42,10 +42,6 @@ pub guards_push : (runs : List Run) (run : Run) → guards_of (runs ++ run ∷ [
 guards_push [] run = refl
 guards_push (r ∷ runs) run = ap (λ gs. r.guard ∷ gs) (guards_push runs run)
 
-pub get_end : {A : Type 0} (xs : List A) (y : A) → slice_get (xs ++ y ∷ []) (length xs) ≡ Some y
-get_end [] y = refl
-get_end (x ∷ xs) y = get_end xs y
-
 -- one item more
 pub taken_one : {A : Type 0} (xs : List A) (n : ℕ) (y : A) → slice_get xs n ≡ Some y → take (n + 1) xs ≡ take n xs ++ y ∷ []
 taken_one [] n y is = absurd (let e : None ≡ Some y = is in cc)

@@ -49,14 +49,8 @@ module _ (scope : Scope) (known : Known) (guard : Ref) where
 
 -- a test that is not the end
 pub no_end : (t : Test) → (t ≡ Test.End → ⊥) → is_end t ≡ false
-no_end Test.Always other = refl
-no_end (Test.Is x) other = refl
-no_end (Test.IsNot x) other = refl
-no_end (Test.Both a b) other = refl
-no_end (Test.NotBoth a b) other = refl
-no_end (Test.Three three) other = refl
-no_end Test.Walk other = refl
 no_end Test.End other = absurd (other refl)
+no_end any other = refl
 
 -- a guard whose node leads to constants alone
 module _ (scope : Scope) (reduced : IsReduced scope.nodes) (among : AreBelow scope.signals scope.conditions) (guard : Ref) (held : Holds scope.nodes guard)

@@ -12,12 +12,12 @@ use Rattle.sig_cells.specs.declared.instruction.Instruction.{Instruction}
 use Rattle.sig_cells.specs.declared.react.Fault.{Fault}
 use Rattle.sig_cells.specs.declared.stretches.Known.{Known}
 use Rattle.sig_cells.specs.declared.stretches.Run.{Run}
-use Rattle.sig_cells.proofs.Passed.{none_where}
+use Rattle.std.proofs.lemmas.Bool.{false_from_ne_true}
 
 -- where the guard of a run does not hold, the instructions up to the place where it is left are passed over
 pub run_passed : (nodes : List Node) (runs : List Run) (place : ℕ) (run : Run) → IsRun nodes runs place run → ArePassed nodes runs (record { guard = run.guard; truth = false }) place run.skip
 run_passed nodes runs place run is = λ other later before guard at truths off.
-    none_where _ (λ on. let clash : true ≡ false = sym (is.implied other later before guard at truths on) ∙ off in cc)
+    false_from_ne_true _ (λ on. let clash : true ≡ false = sym (is.implied other later before guard at truths on) ∙ off in cc)
 
 module _ (scope : Scope) (runs : List Run) (instructions : List Instruction) (flows : List (List ℤ)) (instant : ℕ) (start : Cells)
     (stands : Stands scope (guards_of runs) instructions flows instant start) where

@@ -92,17 +92,6 @@ module _ (nodes : List Node) where
         implied = λ other from before guard there truths holds. subst (λ (g : Ref). IsTrue (test nodes g truths)) (one_guard other from before guard there) holds;
       }
 
-    -- left at its end
-    pub left_at_end : (place : ℕ) (run : Run) → IsRun nodes runs place run → IsLeft nodes runs place run run.end
-    left_at_end place run is = record {
-      held = is.held;
-      later = is.later;
-      leaves = omega arith;
-      within = let a = is.leaves in let b = is.within in omega (arith, a, b);
-      same = is.same;
-      implied = λ other from before guard there. is.implied other from (let a = is.leaves in omega (arith, a, before)) guard there;
-    }
-
     -- left later, where the next run is done only where this one is
     pub left_later : (place skip : ℕ) (run next : Run) → IsLeft nodes runs place run skip → IsRun nodes runs skip next → Implies nodes next.guard run.guard → IsLeft nodes runs place run next.skip
     left_later place skip run next is then_ implies = record {

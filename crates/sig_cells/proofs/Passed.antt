@@ -1,10 +1,11 @@
 -- Runs that are done, and those that are passed over, where what is known of a guard tells it.
 use Rattle.sig_cells.proofs.Common.{◌≡◌, ◌≤◌, ◌∙◌, if◌then◌else◌, ℕ, Bool, true, false, not, nat_lt, List, length, refl, sym, subst, ap, inl, inr, arith, AreDone, ArePassed, IsRun, IsStretch, IsTest, IsTold, Known, Stretch, Node, Ref, Run, Scope, Test, cases_lt, is_end, test}
+use Rattle.std.proofs.lemmas.Bool.{false_from_ne_true}
 use Rattle.sig_cells.proofs.GuardsOfOneCondition.{test_end, test_walk}
 
-pub none_where : (b : Bool) → (b ≡ true → ⊥) → b ≡ false
-none_where true not = absurd (not refl)
-none_where false not = refl
+-- what is read where there is no run
+abbrev pub no_run : Run
+no_run = record { guard = record { number = 0 }; end = 0; skip = 0 }
 
 module _ (nodes : List Node) (runs : List Run) (known : Known) where
   pub none_passed : (from : ℕ) → ArePassed nodes runs known from from
@@ -16,7 +17,7 @@ module _ (nodes : List Node) (runs : List Run) (known : Known) where
   passed_more from place run passed is off = λ other later earlier guard there truths has. elim (cases_lt other place) [
     | inl before ↦ passed other later before guard there truths has
     | inr behind ↦
-        none_where (test nodes guard truths)
+        false_from_ne_true (test nodes guard truths)
         (λ on. let clash : true ≡ false = sym (is.implied other behind earlier guard there truths on) ∙ off truths has in cc)
   ]
 

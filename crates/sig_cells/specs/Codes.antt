@@ -7,15 +7,15 @@ use Rattle.sig_cells.specs.Instructions.{Cells}
 use Rattle.sig_cells.specs.declared.react.Fault.{Fault}
 pub use Rattle.sig_cells.specs.Rows.{AreInstructions, AreWithin, IsWithin, listed}
 use Rattle.sig_cells.specs.inner.Ways.{AreRuns, AskAmong, AreWays, IsFirst, guards_of}
-use Rattle.sig_cells.specs.declared.code.Code.{Code}
+use Rattle.sig_cells.specs.declared.code.GuardedCode.{GuardedCode}
 use Rattle.sig_cells.specs.declared.instruction.Instruction.{Instruction}
 
 -- the instructions, in their order
-abbrev pub instructions_in : Code → List Instruction
+abbrev pub instructions_in : GuardedCode → List Instruction
 instructions_in code = listed code.instructions
 
 -- their guards
-abbrev pub guards_in : Code → List Ref
+abbrev pub guards_in : GuardedCode → List Ref
 guards_in code = guards_of code.runs.items
 
 -- Guards are functions of the nodes, and ask conditions alone.
@@ -24,11 +24,11 @@ pub record AreGuards (scope : Scope) (guards : List Ref) : Type 0 where
   pub told : (place : ℕ) (guard : Ref) → slice_get guards place ≡ Some guard → AsksAmong scope.nodes scope.conditions guard
 
 -- what the guards are told by, over nodes
-abbrev pub scope_in : List Node → Code → Scope
+abbrev pub scope_in : List Node → GuardedCode → Scope
 scope_in nodes code = scope_of nodes code.conditions.items code.signals
 
 -- A code over so many inputs and cells, whose guards are functions of nodes.
-pub record IsCode (nodes : List Node) (inputs cells : ℕ) (code : Code) : Type 0 where
+pub record IsCode (nodes : List Node) (inputs cells : ℕ) (code : GuardedCode) : Type 0 where
   pub room : code.signals ≤ cells
   pub instructions : AreInstructions inputs cells code.instructions
   pub below : AreBelow code.signals code.conditions.items
@@ -41,13 +41,13 @@ pub record IsCode (nodes : List Node) (inputs cells : ℕ) (code : Code) : Type 
 -- ---- an instant of a code
 
 -- what its guards tell stands
-abbrev pub StandsIn : List Node → Code → List (List ℤ) → ℕ → Cells → Type 0
+abbrev pub StandsIn : List Node → GuardedCode → List (List ℤ) → ℕ → Cells → Type 0
 StandsIn nodes code = Stands (scope_in nodes code) (guards_in code) (instructions_in code)
 
 -- all its instructions are handled
-abbrev pub HandlesAll : List Node → Code → List (List ℤ) → ℕ → Cells → Cells → Type 0
+abbrev pub HandlesAll : List Node → GuardedCode → List (List ℤ) → ℕ → Cells → Cells → Type 0
 HandlesAll nodes code flows instant = Handles (scope_in nodes code) (guards_in code) (instructions_in code) flows instant (length (instructions_in code))
 
 -- it ends at one that has no value
-abbrev pub EndsIn : List Node → Code → List (List ℤ) → ℕ → Cells → Cells → Fault → Type 0
+abbrev pub EndsIn : List Node → GuardedCode → List (List ℤ) → ℕ → Cells → Cells → Fault → Type 0
 EndsIn nodes code = EndsAt (scope_in nodes code) (guards_in code) (instructions_in code)

@@ -55,16 +55,12 @@ ReadsWithin inputs cells (Two function a b) = (a < cells) × (b < cells)
 -- the input whose next value a work takes
 abbrev pub input_taken : Work → Option SigId
 input_taken (Next input) = Some (input_id input)
-input_taken (Copy source) = None
-input_taken (One function a) = None
-input_taken (Two function a b) = None
+input_taken other = None
 
 -- how many values were taken of each input, behind a work
 abbrev pub taken_after : Work → List ℕ → List ℕ
 taken_after (Next input) taken = slice_set taken input (slice_index_or taken input 0 + 1)
-taken_after (Copy source) taken = taken
-taken_after (One function a) taken = taken
-taken_after (Two function a b) taken = taken
+taken_after other taken = taken
 
 -- the value of an instruction in its cell, with the stamp of the instant
 abbrev pub left_by : Instruction → ℤ → ℕ → Cells → Cells

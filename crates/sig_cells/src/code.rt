@@ -17,7 +17,7 @@ use std::alloc::{AllocError, Global};
 /// Instructions over numbered cells in their order, each under a guard, over conditions that are signals: the cells of the
 /// signals are the first ones.
 #[derive(Drop)]
-pub struct Code {
+pub struct GuardedCode {
     pub(crate) signals: usize,
     pub(crate) conditions: Vec<SigId>,
     pub(crate) instructions: Instructions,
@@ -26,7 +26,7 @@ pub struct Code {
     pub(crate) ways: Vec<Ways>,
 }
 
-impl Code {
+impl GuardedCode {
     /// These instructions under these guards, which are functions of a store over the conditions. Only memory can be wanting.
     pub fn new(
         alloc: Global,
@@ -35,7 +35,7 @@ impl Code {
         signals: usize,
         guards: &[Ref],
         instructions: Vec<Instruction>,
-    ) -> Result<Code, AllocError>
+    ) -> Result<GuardedCode, AllocError>
         requires count { length guards.now ≡ length instructions.items }
         requires guards { AreGuards (scope_of store.now.nodes conditions.now signals) guards.now }
         requires below { AreBelow signals conditions.now }
@@ -51,7 +51,7 @@ impl Code {
         let made = runs.as_slice();
         let first = first_of(store, conditions, signals, made);
         let ways = ways_of(alloc, store, conditions, signals, made)?;
-        Ok(Code {
+        Ok(GuardedCode {
             signals,
             conditions: Vec::from_slice(alloc, conditions)?,
             instructions,

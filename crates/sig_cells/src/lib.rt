@@ -20,7 +20,7 @@ mod tests;
 mod ways;
 mod works;
 
-pub use code::Code;
+pub use code::GuardedCode;
 pub use instruction::{Instruction, Work};
 pub use instructions::Instructions;
 pub use react::Fault;

@@ -1,16 +1,15 @@
 //! One instant.
 
-ghost use Rattle.std.specs.Prelude.{◌≡◌, ◌≤◌, ◌<◌};
+ghost use Rattle.std.specs.Prelude.{◌≡◌, ◌<◌};
 ghost use Rattle.sig_cells.specs.Prelude.{ℕ, List, IfErr, OnOk, length};
 ghost use Rattle.sig_cells.specs.Codes.{EndsIn, HandlesAll, IsCode, StandsIn, instructions_in};
 ghost use Rattle.sig_cells.specs.Instants.{FailsAt, Keeps};
-ghost use Rattle.sig_cells.specs.Rows.{AreInstructions, GoesTo, Stops};
+ghost use Rattle.sig_cells.specs.Rows.{AreInstructions, Stops};
 ghost use Rattle.sig_cells.specs.Instructions.{cells_of};
 ghost use Rattle.sig_cells.specs.inner.Tests.{is_end};
 
-use crate::code::Code;
+use crate::code::GuardedCode;
 use crate::guard::View;
-use crate::stretches::Stretch;
 use crate::test::Test;
 use crate::works::come_to;
 use sig_dd::Store;
@@ -25,7 +24,7 @@ pub struct Fault {
     pub cause: Cause,
 }
 
-impl Code {
+impl GuardedCode {
     /// Does all instructions of an instant whose guards hold, in their order, or tells the first that has no value. It takes no
     /// memory.
     pub fn react(
@@ -58,13 +57,17 @@ impl Code {
             };
             if view.is_on(store, self.conditions.as_slice(), ways.guard, &next.test) {
                 next = &ways.on;
-                let reached = self.do_stretch(inputs, next, instant, cells, stamps, taken);
+                let reached = self
+                    .instructions
+                    .execute(inputs, next.from, next.to, instant, cells, stamps, taken);
                 if reached < next.to {
                     return Err(self.fault_at(inputs, reached, cells, taken));
                 }
             } else {
                 next = &ways.off;
-                let reached = self.do_stretch(inputs, next, instant, cells, stamps, taken);
+                let reached = self
+                    .instructions
+                    .execute(inputs, next.from, next.to, instant, cells, stamps, taken);
                 if reached < next.to {
                     return Err(self.fault_at(inputs, reached, cells, taken));
                 }
@@ -91,38 +94,6 @@ impl Code {
             },
             Err(cause) => Fault { place, cause },
         }
-    }
-
-    /// Does the instructions of a stretch, up to one that has no value, and gives the place that it comes to.
-    #[inline(always)]
-    fn do_stretch(
-        &self,
-        inputs: &Inputs,
-        stretch: &Stretch,
-        instant: u32,
-        cells: &mut [i64],
-        stamps: &mut [u32],
-        taken: &mut [usize],
-    ) -> usize
-        requires code { AreInstructions (length taken.old) (length cells.old) self.now.instructions }
-        requires stamps { length stamps.old ≡ length cells.old }
-        requires forth { stretch.now.from ≤ stretch.now.to }
-        requires within { stretch.now.to ≤ length (instructions_in self.now) }
-        ensures later { stretch.now.from ≤ result }
-        ensures within { result ≤ stretch.now.to }
-        ensures goes { GoesTo (instructions_in self.now) inputs.now instant stretch.now.from result (cells_of cells.old stamps.old taken.old) (cells_of cells.new stamps.new taken.new) }
-        ensures stops { result < stretch.now.to → Stops (instructions_in self.now) inputs.now result (cells_of cells.new stamps.new taken.new) }
-        ensures keeps { Keeps (instructions_in self.now) instant (cells_of cells.old stamps.old taken.old) (cells_of cells.new stamps.new taken.new) }
-    {
-        self.instructions.execute(
-            inputs,
-            stretch.from,
-            stretch.to,
-            instant,
-            cells,
-            stamps,
-            taken,
-        )
     }
 }
 

@@ -46,34 +46,8 @@ impl Instructions {
         ensures keeps { Keeps (listed self.now) instant (cells_of cells.old stamps.old taken.old) (cells_of cells.new stamps.new taken.new) }
     {
         if to - from >= LONG {
-            do_long(self, inputs, from, to, instant, cells, stamps, taken)
-        } else {
-            self.do_short(inputs, from, to, instant, cells, stamps, taken)
+            return do_long(self, inputs, from, to, instant, cells, stamps, taken);
         }
-    }
-
-    /// Does the instructions from a place up to another one, or to one that has no value, and gives the place that it comes to.
-    #[inline(always)]
-    fn do_short(
-        &self,
-        inputs: &Inputs,
-        from: usize,
-        to: usize,
-        instant: u32,
-        cells: &mut [i64],
-        stamps: &mut [u32],
-        taken: &mut [usize],
-    ) -> usize
-        requires code { AreInstructions (length taken.old) (length cells.old) self.now }
-        requires stamps { length stamps.old ≡ length cells.old }
-        requires forth { from ≤ to }
-        requires within { to ≤ length (listed self.now) }
-        ensures later { from ≤ result }
-        ensures within { result ≤ to }
-        ensures goes { GoesTo (listed self.now) inputs.now instant from result (cells_of cells.old stamps.old taken.old) (cells_of cells.new stamps.new taken.new) }
-        ensures stops { result < to → Stops (listed self.now) inputs.now result (cells_of cells.new stamps.new taken.new) }
-        ensures keeps { Keeps (listed self.now) instant (cells_of cells.old stamps.old taken.old) (cells_of cells.new stamps.new taken.new) }
-    {
         let coded = self.coded.as_slice();
         let mut left = to - from;
         while left > 0 {

@@ -1,5 +1,5 @@
 -- The values of functions are of the kinds of the signals that they define.
-use Rattle.sig_exec.proofs.Common.{◌≡◌, inl, inr, suc, ℤ, Bool, true, false, List, [], ◌∷◌, length, Option, None, Some, refl, sym, ap, subst, ◌∙◌, IsTrue, ◌&&◌, ◌||◌, Gives, Tells, Bounded, Instant, IsValue, has_64_bits, Kind, Boolean, Event, Integer, fits_by_test, HaveValues, function_of, constant_is, value_is, FunOp, Id, Neg, Not, And, Or, Xor, Eq, Ne, Lt, Le, Gt, Ge, Add, Sub, Mul, Div, Mod, Operand, Const, Sig, value_of, are_operands, kind_at, operand_is, sort_of, ImageSignal}
+use Rattle.sig_exec.proofs.Common.{◌≡◌, inl, inr, suc, ℤ, Bool, true, false, List, [], ◌∷◌, length, Option, None, Some, refl, sym, ap, subst, ◌∙◌, IsTrue, ◌&&◌, ◌||◌, Gives, Tells, Bounded, Instant, IsValue, has_64_bits, Kind, Boolean, Event, Integer, fits_by_test, HaveValues, function_of, constant_is, value_is, FunOp, Id, Not, And, Or, Xor, Eq, Ne, Lt, Le, Gt, Ge, Operand, Const, Sig, value_of, are_operands, kind_at, operand_is, sort_of, ImageSignal}
 use Rattle.sig_file.specs.Images.{operand_count}
 use Rattle.sig_exec.proofs.KeptKinds.{Kinded, register_kind, taken}
 
@@ -42,8 +42,7 @@ module _ (signals : List ImageSignal) (registers : Instant) (are : Kinded signal
   -- the value of an operand
   constant_value : (kind : Kind) (c : ℤ) → constant_is (sort_of kind) c ≡ true → value_is kind c ≡ true
   constant_value Integer c is = is
-  constant_value Boolean c is = is
-  constant_value Event c is = is
+  constant_value other c is = is
 
   operand_value : (kind : Kind) (operand : Operand) (v : ℤ) → operand_is signals operand (sort_of kind) ≡ true → HaveValues registers (operand ∷ []) (v ∷ []) → IsValue Bounded kind v
   operand_value kind (Sig x) v fits have = let (from, is, all) = taken kind (kind_at signals x.0) fits in all v (register_kind signals registers x.0 from v are is have.0)
@@ -83,7 +82,6 @@ module _ (signals : List ImageSignal) (registers : Instant) (are : Kinded signal
   truth_kind : (op : FunOp) (operands : List Operand) (values : List ℤ) (v : ℤ) → IsTrue (are_operands signals op (Some Boolean) operands) → length operands ≡ operand_count op
       → HaveValues registers operands values → Gives Bounded (function_of op) values v → IsValue Bounded Boolean v
   truth_kind Id operands values v fits count have gives = handed Boolean operands values v count (λ operand is. handed_truth operands operand fits is) have gives
-  truth_kind Neg operands values v fits count have gives = not_so fits
   truth_kind Not operands values v fits count have gives = from_one Not operands values v count have (λ a tells. told v _ tells) gives
   truth_kind And operands values v fits count have gives = from_two And operands values v count have (λ a b tells. told v _ tells) gives
   truth_kind Or operands values v fits count have gives = from_two Or operands values v count have (λ a b tells. told v _ tells) gives
@@ -94,31 +92,12 @@ module _ (signals : List ImageSignal) (registers : Instant) (are : Kinded signal
   truth_kind Le operands values v fits count have gives = from_two Le operands values v count have (λ a b tells. told v _ tells) gives
   truth_kind Gt operands values v fits count have gives = from_two Gt operands values v count have (λ a b tells. told v _ tells) gives
   truth_kind Ge operands values v fits count have gives = from_two Ge operands values v count have (λ a b tells. told v _ tells) gives
-  truth_kind Add operands values v fits count have gives = not_so fits
-  truth_kind Sub operands values v fits count have gives = not_so fits
-  truth_kind Mul operands values v fits count have gives = not_so fits
-  truth_kind Div operands values v fits count have gives = not_so fits
-  truth_kind Mod operands values v fits count have gives = not_so fits
+  truth_kind other operands values v fits count have gives = not_so fits
 
   event_kind : (op : FunOp) (operands : List Operand) (values : List ℤ) (v : ℤ) → IsTrue (are_operands signals op (Some Event) operands) → length operands ≡ operand_count op
       → HaveValues registers operands values → Gives Bounded (function_of op) values v → IsValue Bounded Event v
   event_kind Id operands values v fits count have gives = handed Event operands values v count (λ operand is. handed_event operands operand fits is) have gives
-  event_kind Neg operands values v fits count have gives = not_so fits
-  event_kind Not operands values v fits count have gives = not_so fits
-  event_kind And operands values v fits count have gives = not_so fits
-  event_kind Or operands values v fits count have gives = not_so fits
-  event_kind Xor operands values v fits count have gives = not_so fits
-  event_kind Eq operands values v fits count have gives = not_so fits
-  event_kind Ne operands values v fits count have gives = not_so fits
-  event_kind Lt operands values v fits count have gives = not_so fits
-  event_kind Le operands values v fits count have gives = not_so fits
-  event_kind Gt operands values v fits count have gives = not_so fits
-  event_kind Ge operands values v fits count have gives = not_so fits
-  event_kind Add operands values v fits count have gives = not_so fits
-  event_kind Sub operands values v fits count have gives = not_so fits
-  event_kind Mul operands values v fits count have gives = not_so fits
-  event_kind Div operands values v fits count have gives = not_so fits
-  event_kind Mod operands values v fits count have gives = not_so fits
+  event_kind other operands values v fits count have gives = not_so fits
 
   -- the value of a function
   pub function_kind : (op : FunOp) (target : Option Kind) (operands : List Operand) (values : List ℤ) (v : ℤ) → IsTrue (are_operands signals op target operands) → length operands ≡ operand_count op

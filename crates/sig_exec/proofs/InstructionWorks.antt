@@ -1,5 +1,5 @@
 -- An instruction comes to what its operation comes to, and leaves what that leaves.
-use Rattle.sig_exec.proofs.Common.{◌≡◌, ◌<◌, ◌≤◌, ◌+◌, ◌++◌, ℕ, zero, suc, ℤ, pos, List, [], ◌∷◌, length, set, drop, replicate, Some, Ok, refl, sym, ap, subst, ◌∙◌, arith, length-set, length-append, get_or-set_other, slice_get, slice_index_or, Contains, get_or-take, get_or-drop, length-take-le, length-drop, length-map, length-replicate, Instant, seen_at, SigId, function_of, FunOp, Operand, Const, Sig, Writes, ImageView, IsImage, MayDo, scope_of, State, ImageMemory, ImageOp, ImageOpKind, IsCellOf, IsConstant, IsFor, IsFunctionWork, IsWorkOf, Lowers, bound_of, cell, inits_of, target_of, Cells, AreCellsOf, HaveSignals, ReadsWithin, answer_of, left_by, left_of, next_of, answered, registers_on, state_on, taken_after, computed, no_equation, Instruction, Work, Next, Copy, One, Two, ImageInstructions}
+use Rattle.sig_exec.proofs.Common.{◌≡◌, ◌<◌, ◌≤◌, ◌+◌, ◌++◌, ℕ, zero, suc, ℤ, pos, List, [], ◌∷◌, length, set, drop, replicate, Some, Ok, refl, sym, ap, subst, ◌∙◌, arith, length-set, length-append, get_or-set_other, slice_get, slice_index_or, Contains, get_or-take, get_or-drop, length-take-le, length-drop, length-map, length-replicate, Instant, seen_at, SigId, function_of, FunOp, Operand, Const, Sig, Writes, ImageView, IsImage, MayDo, scope_of, State, ImageMemory, ImageOp, ImageOpKind, IsCellOf, IsConstant, IsFor, IsFunctionWork, IsWorkOf, Lowers, bound_of, cell, inits_of, target_of, Cells, AreCellsOf, HaveSignals, ReadsWithin, answer_of, left_by, left_of, next_of, answered, registers_on, state_on, taken_after, computed, no_equation, Instruction, Work, Next, Copy, ImageInstructions}
 use Rattle.sig_file.specs.declared.images.ImageOpKind.TheVariants as does
 use Rattle.sig_exec.proofs.CellsLeft.{cell_of_seen, flows_read, flows_same, left_at, left_length, memory_memories, memory_registers, signal_memories, signal_registers}
 use Rattle.sig_exec.proofs.OperationOutcomes.{HasPlaces, HasReads, next_in, operand_in, operated, outcome, value_in}
@@ -163,9 +163,7 @@ module _ (image : ImageView) (lowered : ImageInstructions) (lowers : Lowers imag
 
       taken_length : (work : Work) → length (taken_after work m.taken) ≡ length m.taken
       taken_length (Next x) = length-set m.taken x (slice_index_or m.taken x 0 + 1)
-      taken_length (Copy source) = refl
-      taken_length (One f a) = refl
-      taken_length (Two f a b) = refl
+      taken_length other = refl
 
       past_set : (stamps : List ℕ) (x instant number stamp : ℕ) → ((k s : ℕ) → slice_get stamps k ≡ Some s → s ≤ instant) → slice_get (set stamps x instant) number ≡ Some stamp → stamp ≤ instant
       past_set [] x instant number stamp before e = before number stamp e

@@ -115,14 +115,10 @@ Goes from to = (v : ℤ) → IsValue Bounded from v → IsValue Bounded to v
 
 pub goes : (to from : Kind) → kind_fits (sort_of to) (Some from) ≡ true → Goes from to
 goes Integer Integer fits = λ v value. value
-goes Integer Boolean fits = no fits
-goes Integer Event fits = no fits
-goes Boolean Integer fits = no fits
 goes Boolean Boolean fits = λ v value. value
 goes Boolean Event fits = λ v value. inr value
-goes Event Integer fits = no fits
-goes Event Boolean fits = no fits
 goes Event Event fits = λ v value. value
+goes to from fits = no fits
 
 pub taken : (to : Kind) (from : Option Kind) → kind_fits (sort_of to) from ≡ true → (kind : Kind) × (from ≡ Some kind) × Goes kind to
 taken to None fits = no fits
@@ -138,14 +134,9 @@ given (Some kind) v fits = (kind, refl, value_of kind v fits)
 
 pub one_kind : (a b : Kind) → is_kind a b ≡ true → a ≡ b
 one_kind Integer Integer same = refl
-one_kind Integer Boolean same = no same
-one_kind Integer Event same = no same
-one_kind Boolean Integer same = no same
 one_kind Boolean Boolean same = refl
-one_kind Boolean Event same = no same
-one_kind Event Integer same = no same
-one_kind Event Boolean same = no same
 one_kind Event Event same = refl
+one_kind a b same = no same
 
 pub alike : (target source : Option Kind) → IsTrue (is_same target source) → (kind : Kind) × (target ≡ Some kind) × (source ≡ Some kind)
 alike None source same = no same

@@ -1,5 +1,5 @@
 -- The instructions and the guards of an image.
-use Rattle.sig_exec.proofs.Common.{◌≡◌, ◌≤◌, ◌++◌, ◌∷◌, ◌∙◌, inl, inr, ℕ, ℤ, pos, List, [], length, replicate, Some, sym, ap, subst, arith, slice_get, same_Some, get_pushed, SigId, Ref, ImageView, IsImage, ImageOp, AreFor, AreFunctions, AreGuardsOf, AreWithin, AreBelow, BeginWith, Grows, Instruction, IsCode, ImageInstructions, Lowers, guards_in, inits_of, instructions_in}
+use Rattle.sig_exec.proofs.Common.{◌≡◌, ◌≤◌, ◌++◌, ◌∙◌, ℕ, ℤ, pos, List, length, replicate, Some, sym, ap, subst, arith, slice_get, SigId, Ref, ImageView, IsImage, ImageOp, AreFor, AreFunctions, AreGuardsOf, AreWithin, AreBelow, BeginWith, Grows, Instruction, IsCode, ImageInstructions, Lowers, guards_in, inits_of, instructions_in}
 use Rattle.sig_cells.specs.Guards.{scope_of as cells_scope}
 use Rattle.sig_exec.proofs.MoreConstants.{begin_room}
 use Rattle.sig_exec.proofs.Places.{condition_within}
@@ -9,15 +9,6 @@ use Rattle.sig_exec.proofs.Within.{are_within}
 abbrev pub AreGuardsOfFirst : ImageView → List Ref → List Ref → Type 0
 AreGuardsOfFirst image refs guards =
     (place : ℕ) (guard : Ref) (op : ImageOp) → slice_get guards place ≡ Some guard → slice_get image.ops place ≡ Some op → slice_get refs op.guard ≡ Some guard
-
-pub guards_more : (image : ImageView) (refs guards : List Ref) (guard : Ref) (op : ImageOp) → AreGuardsOfFirst image refs guards → slice_get image.ops (length guards) ≡ Some op
-    → slice_get refs op.guard ≡ Some guard → AreGuardsOfFirst image refs (guards ++ guard ∷ [])
-guards_more image refs guards guard op are there is = λ place that other at here. elim (get_pushed guards guard place that at) [
-  | inl before ↦ are place that other before here
-  | inr (last, same) ↦
-      let one : op ≡ other = same_Some op other (sym there ∙ ap (slice_get image.ops) (sym last) ∙ here) in
-      subst (λ (g : Ref). slice_get refs other.guard ≡ Some g) same (subst (λ (o : ImageOp). slice_get refs o.guard ≡ Some guard) one is)
-]
 
 -- conditions are signals
 pub are_below : (image : ImageView) → IsImage image → AreBelow (length image.signals) image.conditions

@@ -33,12 +33,9 @@ function_grows bound cells more op (a ∷ b ∷ []) work (m, n, first, second, e
 function_grows bound cells more op (a ∷ b ∷ c ∷ operands) work is = is
 
 work_grows : (image : ImageView) (cells more : List ℤ) (kind : ImageOpKind) (work : Work) → IsWorkOf image cells kind work → IsWorkOf image (cells ++ more) kind work
-work_grows image cells more (does.Read x) work is = is
 work_grows image cells more (does.Fun y op operands) work is = function_grows (bound_of image) cells more op operands work is
-work_grows image cells more (does.Copy y x) work is = is
 work_grows image cells more (does.Const y value) work (n, constant, e) = (n, constant_grows (bound_of image) cells more value n constant, e)
-work_grows image cells more (does.DelayRead y memory) work is = is
-work_grows image cells more (does.Store memory x) work is = is
+work_grows image cells more kind work is = is
 
 for_grows : (image : ImageView) (cells more : List ℤ) (op : ImageOp) (instruction : Instruction) → IsFor image cells op instruction → IsFor image (cells ++ more) op instruction
 for_grows image cells more op instruction is = record { work = work_grows image cells more op.kind instruction.work is.work; target = is.target }

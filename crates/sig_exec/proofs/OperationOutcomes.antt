@@ -1,5 +1,5 @@
 -- What an operation comes to in a state, and what it leaves.
-use Rattle.sig_exec.proofs.Common.{◌≡◌, ◌<◌, inl, inr, ℕ, ℤ, pos, List, [], ◌∷◌, length, map, None, Some, Result, Ok, Err, unwrap_or, refl, sym, ap, ◌∙◌, length-set, get_or-set_other, get_or-set_same, Contains, slice_get, slice_set, slice_index_or, length-map, slice_get-get_or, operand_count as count_of, Instant, Seen, seen_at, SigId, Span, HaveValues, function_of, FunOp, Id, Neg, Not, And, Or, Xor, Eq, Ne, Lt, Le, Gt, Ge, Add, Sub, Mul, Div, Mod, Operand, Const, Sig, Reads, Writes, Does, Ends, State, written, ImageOpKind, cause_of, computed, answered, no_equation, Cause, Exhausted, contains_head, contains_later}
+use Rattle.sig_exec.proofs.Common.{◌≡◌, ◌<◌, inl, inr, ℕ, ℤ, pos, List, [], ◌∷◌, length, map, None, Some, Result, Ok, Err, unwrap_or, refl, sym, ap, ◌∙◌, length-set, get_or-set_other, get_or-set_same, Contains, slice_get, slice_set, slice_index_or, length-map, slice_get-get_or, operand_count as count_of, Instant, Seen, seen_at, SigId, Span, HaveValues, function_of, FunOp, Id, Operand, Const, Sig, Reads, Writes, Does, Ends, State, written, ImageOpKind, cause_of, computed, answered, no_equation, Cause, Exhausted, contains_head, contains_later}
 use Rattle.sig_file.specs.Images.{operand_count}
 use Rattle.sig_file.specs.declared.images.ImageOpKind.TheVariants as does
 use Rattle.sig_exec.proofs.Results.{Computed, computed_is, overflow, result, zero_divisor}
@@ -46,10 +46,8 @@ HasReads kind s = (x : SigId) → Reads kind x → (v : ℤ) × (seen_at s.regis
 abbrev pub HasPlaces : ImageOpKind → State → Type 0
 HasPlaces (does.Read x) s = x.0 < length s.flows
 HasPlaces (does.Fun y op operands) s = length operands ≡ operand_count op
-HasPlaces (does.Copy y x) s = Unit {0}
-HasPlaces (does.Const y value) s = Unit {0}
 HasPlaces (does.DelayRead y memory) s = memory < length s.memories
-HasPlaces (does.Store memory x) s = Unit {0}
+HasPlaces other s = Unit {0}
 
 pub there_is : (seen : Seen) → ((v : ℤ) × (seen ≡ Some v)) → seen ≡ Some (value_in seen)
 there_is None (v, e) = absurd (let h : None ≡ Some v = e in cc)
@@ -64,22 +62,7 @@ have_values registers (Const c ∷ operands) there = (refl, have_values register
 
 counts : (op : FunOp) → operand_count op ≡ count_of (function_of op)
 counts Id = refl
-counts Neg = refl
-counts Not = refl
-counts And = refl
-counts Or = refl
-counts Xor = refl
-counts Eq = refl
-counts Ne = refl
-counts Lt = refl
-counts Le = refl
-counts Gt = refl
-counts Ge = refl
-counts Add = refl
-counts Sub = refl
-counts Mul = refl
-counts Div = refl
-counts Mod = refl
+counts other = refl
 
 -- an operation does what leads from a state to what it leaves, or ends the run
 abbrev pub Comes : ImageOpKind → Span → State → Result ℤ Cause → Type 0

@@ -49,10 +49,7 @@ does_or_ends (does.Fun y op operands) at s t cause (v, (values, have, gives), sm
     let e : true ≡ false = sym small ∙ ap (λ (a : ℤ). has_64_bits a) (sym one) ∙ large in cc
 does_or_ends (does.Fun y op operands) at s t cause (v, (values, have, gives), small, is) (inr (others, has, zeroed, why)) =
     zero_gives_nothing (function_of op) values v gives (subst (λ (l : List ℤ). HasZeroDivisor (function_of op) l) (same_values s.registers operands others values has have) zeroed)
-does_or_ends (does.Copy y x) at s t cause did ended = ended
-does_or_ends (does.Const y value) at s t cause did ended = ended
-does_or_ends (does.DelayRead y memory) at s t cause did ended = ended
-does_or_ends (does.Store memory x) at s t cause did ended = ended
+does_or_ends kind at s t cause did ended = ended
 
 ends_once : (kind : ImageOpKind) (at : Span) (s : State) (cause other : ImageCause) → Ends kind at s cause → Ends kind at s other → cause ≡ other
 ends_once (does.Read x) at s cause other one two = one.1 ∙ sym two.1
@@ -62,10 +59,7 @@ ends_once (does.Fun y op operands) at s cause other (inl (v, (values, have, give
     absurd (zero_gives_nothing (function_of op) values v gives (subst (λ (l : List ℤ). HasZeroDivisor (function_of op) l) (same_values s.registers operands others values has have) zeroed))
 ends_once (does.Fun y op operands) at s cause other (inr (values, have, zeroed, why)) (inl (v, (others, has, gives), large, because)) =
     absurd (zero_gives_nothing (function_of op) others v gives (subst (λ (l : List ℤ). HasZeroDivisor (function_of op) l) (same_values s.registers operands values others have has) zeroed))
-ends_once (does.Copy y x) at s cause other one two = absurd one
-ends_once (does.Const y value) at s cause other one two = absurd one
-ends_once (does.DelayRead y memory) at s cause other one two = absurd one
-ends_once (does.Store memory x) at s cause other one two = absurd one
+ends_once kind at s cause other one two = absurd one
 
 -- ---- one instant
 

@@ -8,7 +8,7 @@ ghost use Rattle.sig_exec.specs.inner.Lowerings.{AreFor, AreGuardsOf, Grows, IsC
 use crate::functions::Functions;
 use crate::images::{conditions_of, images_are_right, op_at, signal_count};
 use crate::lowered::ImageInstructions;
-use sig_cells::{Code, Instruction, Work};
+use sig_cells::{GuardedCode, Instruction, Work};
 use sig_dd::Ref;
 use sig_file::{Image, ImageOp, ImageOpKind};
 use sig_kernel::{FunOp, Operand};
@@ -23,7 +23,7 @@ pub(crate) fn lower(alloc: Global, image: &Image) -> Result<ImageInstructions, A
     let mut cells = opening_cells(alloc, image)?;
     let guards = guards_of(alloc, image, &functions)?;
     let instructions = instructions_of(alloc, image, &mut cells)?;
-    let code = Code::new(
+    let code = GuardedCode::new(
         alloc,
         &functions.store,
         conditions_of(image),

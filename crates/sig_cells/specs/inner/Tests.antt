@@ -24,14 +24,8 @@ three_holds three registers =
 
 -- there is no run any more
 abbrev pub is_end : Test → Bool
-is_end Test.Always = false
-is_end (Test.Is x) = false
-is_end (Test.IsNot x) = false
-is_end (Test.Both a b) = false
-is_end (Test.NotBoth a b) = false
-is_end (Test.Three three) = false
-is_end Test.Walk = false
 is_end Test.End = true
+is_end other = false
 
 -- what a test tells by registers, unless it is a walk
 abbrev pub told_by : Test → Registers → Option Bool
@@ -46,14 +40,12 @@ told_by Test.End registers = None
 
 -- the signals that a test asks are among so many
 abbrev pub AsksWithin : ℕ → Test → Type 0
-AsksWithin count Test.Always = ⊤
 AsksWithin count (Test.Is x) = x.0 < count
 AsksWithin count (Test.IsNot x) = x.0 < count
 AsksWithin count (Test.Both a b) = (a.signal.0 < count) × (b.signal.0 < count)
 AsksWithin count (Test.NotBoth a b) = (a.signal.0 < count) × (b.signal.0 < count)
 AsksWithin count (Test.Three three) = (three.first.signal.0 < count) × (three.second.signal.0 < count) × (three.third.signal.0 < count)
-AsksWithin count Test.Walk = ⊤
-AsksWithin count Test.End = ⊤
+AsksWithin count other = ⊤
 
 -- a test that is no walk tells the value of a guard by registers
 abbrev pub Tells : Scope → Test → Ref → Registers → Type 0

@@ -1,22 +1,19 @@
-use Rattle.sig_cells.proofs.{arith, slice_index_or, get_at, IsRun, Run, done_more}
+use Rattle.sig_cells.proofs.{no_run, arith, slice_index_or, get_at, IsRun, done_more}
 use Rattle.sig_cells.proofs.ways.last_done.Goals as goal
-
-abbrev none : Run
-none = record { guard = record { number = 0 }; end = 0; skip = 0 }
 
 pub is_on-requires-clause-guard : goal.is_on-requires-clause-guard
 is_on-requires-clause-guard c =
     let place = c.loop.place in
-    let run = slice_index_or c.args.runs.now place none in
+    let run = slice_index_or c.args.runs.now place no_run in
     let within = c.if-place-runs.false in
-    (c.requires.runs place run (get_at c.args.runs.now place none (omega (arith, within)))).held
+    (c.requires.runs place run (get_at c.args.runs.now place no_run (omega (arith, within)))).held
 
 pub loop-preserved : goal.loop-preserved
 loop-preserved c =
     let place = c.loop.place in
-    let run = slice_index_or c.args.runs.now place none in
+    let run = slice_index_or c.args.runs.now place no_run in
     let within = c.if-place-runs.false in
-    let is : IsRun c.args.store.now.nodes c.args.runs.now place run = c.requires.runs place run (get_at c.args.runs.now place none (omega (arith, within))) in
+    let is : IsRun c.args.store.now.nodes c.args.runs.now place run = c.requires.runs place run (get_at c.args.runs.now place no_run (omega (arith, within))) in
     record {
       later = let a = is.later in let d = c.loop.invariant.later in omega (arith, a, d);
       within = let b = is.leaves in let d = is.within in omega (arith, b, d);

@@ -1,51 +1,39 @@
-use Rattle.sig_cells.proofs.{◌≤◌, ◌∙◌, ℕ, List, true, false, length, refl, sym, subst, arith, slice_index_or, get_at, AreDone, ArePassed, AreWaysOf, Holds, IsRun, IsStretch, Known, Node, Run, none_done, none_passed, run_done, same_Some, scope_of, walked_stretch}
+use Rattle.sig_cells.proofs.{no_run, ◌≤◌, ◌∙◌, ℕ, List, true, false, length, refl, sym, subst, arith, slice_index_or, get_at, AreDone, ArePassed, AreWaysOf, Holds, IsRun, IsStretch, Known, Node, Run, none_done, none_passed, run_done, same_Some, scope_of, walked_stretch}
 use Rattle.sig_cells.proofs.ways.ways_from.Goals as goal
-
-abbrev none : Run
-none = record { guard = record { number = 0 }; end = 0; skip = 0 }
 
 ends : (nodes : List Node) (runs : List Run) (place : ℕ) (run : Run) → IsRun nodes runs place run → run.end ≤ length runs
 ends nodes runs place run is = let a = is.leaves in let b = is.within in omega (arith, a, b)
 
 pub first_open-open-requires-clause-known : goal.first_open-open-requires-clause-known
 first_open-open-requires-clause-known c =
-    let run = slice_index_or c.args.runs.now c.args.place none in
+    let run = slice_index_or c.args.runs.now c.args.place no_run in
     subst (λ (k : Known). Holds c.args.store.now.nodes k.guard) (sym c.known_of-off.ensures)
-    (c.requires.runs c.args.place run (get_at c.args.runs.now c.args.place none c.requires.place)).held
+    (c.requires.runs c.args.place run (get_at c.args.runs.now c.args.place no_run c.requires.place)).held
 
 pub first_open-open-requires-clause-from : goal.first_open-open-requires-clause-from
 first_open-open-requires-clause-from c =
-    let run = slice_index_or c.args.runs.now c.args.place none in
-    (c.requires.runs c.args.place run (get_at c.args.runs.now c.args.place none c.requires.place)).within
+    let run = slice_index_or c.args.runs.now c.args.place no_run in
+    (c.requires.runs c.args.place run (get_at c.args.runs.now c.args.place no_run c.requires.place)).within
 
-pub stretch_from-requires-clause-known : goal.stretch_from-requires-clause-known
-stretch_from-requires-clause-known c =
-    let run = slice_index_or c.args.runs.now c.args.place none in
-    subst (λ (k : Known). Holds c.args.store.now.nodes k.guard) (sym c.known_of-on.ensures)
-    (c.requires.runs c.args.place run (get_at c.args.runs.now c.args.place none c.requires.place)).held
-
-pub stretch_from-requires-clause-forth : goal.stretch_from-requires-clause-forth
-stretch_from-requires-clause-forth c =
-    let run = slice_index_or c.args.runs.now c.args.place none in
-    let is : IsRun c.args.store.now.nodes c.args.runs.now c.args.place run = c.requires.runs c.args.place run (get_at c.args.runs.now c.args.place none c.requires.place) in
-    let later = is.later in omega (arith, later)
-
-pub stretch_from-requires-clause-within : goal.stretch_from-requires-clause-within
-stretch_from-requires-clause-within c =
-    let run = slice_index_or c.args.runs.now c.args.place none in
-    ends c.args.store.now.nodes c.args.runs.now c.args.place run (c.requires.runs c.args.place run (get_at c.args.runs.now c.args.place none c.requires.place))
-
-pub stretch_from-requires-clause-done : goal.stretch_from-requires-clause-done
-stretch_from-requires-clause-done c =
-    let run = slice_index_or c.args.runs.now c.args.place none in
-    subst (λ (k : Known). AreDone c.args.store.now.nodes c.args.runs.now k c.args.place run.end) (sym c.known_of-on.ensures)
-    (run_done c.args.store.now.nodes c.args.runs.now c.args.place run (c.requires.runs c.args.place run (get_at c.args.runs.now c.args.place none c.requires.place)))
+pub stretch_from-requires : goal.stretch_from-requires
+stretch_from-requires c =
+    let run = slice_index_or c.args.runs.now c.args.place no_run in
+    let is : IsRun c.args.store.now.nodes c.args.runs.now c.args.place run = c.requires.runs c.args.place run (get_at c.args.runs.now c.args.place no_run c.requires.place) in
+    record {
+      known = subst (λ (k : Known). Holds c.args.store.now.nodes k.guard) (sym c.known_of-on.ensures) is.held;
+      forth = (let later = is.later in omega (arith, later));
+      within = ends c.args.store.now.nodes c.args.runs.now c.args.place run is;
+      done = subst (λ (k : Known). AreDone c.args.store.now.nodes c.args.runs.now k c.args.place run.end) (sym c.known_of-on.ensures) (run_done c.args.store.now.nodes c.args.runs.now c.args.place run is);
+      below = c.requires.below;
+      runs = c.requires.runs;
+      told = c.requires.told;
+    }
 
 pub stretch_from-requires-else-is_inside-clause-known : goal.stretch_from-requires-else-is_inside-clause-known
 stretch_from-requires-else-is_inside-clause-known c =
-    let run = slice_index_or c.args.runs.now c.args.place none in
+    let run = slice_index_or c.args.runs.now c.args.place no_run in
     subst (λ (k : Known). Holds c.args.store.now.nodes k.guard) (sym c.known_of-off.ensures)
-    (c.requires.runs c.args.place run (get_at c.args.runs.now c.args.place none c.requires.place)).held
+    (c.requires.runs c.args.place run (get_at c.args.runs.now c.args.place no_run c.requires.place)).held
 
 pub stretch_from-requires-else-is_inside-clause-done : goal.stretch_from-requires-else-is_inside-clause-done
 stretch_from-requires-else-is_inside-clause-done c = none_done c.args.store.now.nodes c.args.runs.now c.known_of-off.result c.first_open-open.result
@@ -55,8 +43,8 @@ returns-then-is_inside c = λ other at.
     let nodes = c.args.store.now.nodes in
     let scope = scope_of nodes c.args.conditions.now c.args.signals in
     let runs = c.args.runs.now in
-    let run = slice_index_or runs c.args.place none in
-    let here = get_at runs c.args.place none c.requires.place in
+    let run = slice_index_or runs c.args.place no_run in
+    let here = get_at runs c.args.place no_run c.requires.place in
     let is : IsRun nodes runs c.args.place run = c.requires.runs c.args.place run here in
     let on = c.walked.result in
     let off = c.walked-then-is_inside.result in
@@ -80,8 +68,8 @@ returns-else-is_inside c = λ other at.
     let nodes = c.args.store.now.nodes in
     let scope = scope_of nodes c.args.conditions.now c.args.signals in
     let runs = c.args.runs.now in
-    let run = slice_index_or runs c.args.place none in
-    let here = get_at runs c.args.place none c.requires.place in
+    let run = slice_index_or runs c.args.place no_run in
+    let here = get_at runs c.args.place no_run c.requires.place in
     let on = c.stretch_from.result in
     let off = c.stretch_from-else-is_inside.result in
     let known : Known = record { guard = run.guard; truth = false } in

@@ -1,8 +1,5 @@
-use Rattle.sig_cells.proofs.{◌≡◌, ◌+◌, ◌∷◌, [], ◌∙◌, ℕ, ap, sym, subst, length, length-append, slice_get, slice_index_or, Some, get_at, ArePairs, AreWaysOf, Run, pairs_push, scope_of}
+use Rattle.sig_cells.proofs.{no_run, ◌≡◌, ◌+◌, ◌∷◌, [], ◌∙◌, ℕ, ap, sym, subst, length, length-append, slice_get, slice_index_or, Some, get_at, ArePairs, AreWaysOf, pairs_push, scope_of}
 use Rattle.sig_cells.proofs.ways.ways_of.Goals as goal
-
-abbrev none : Run
-none = record { guard = record { number = 0 }; end = 0; skip = 0 }
 
 pub loop-place-preserved : goal.loop-place-preserved
 loop-place-preserved c =
@@ -11,8 +8,8 @@ loop-place-preserved c =
     let ways = c.loop-place.ways.items in
     let place = c.loop-place.place in
     let one = c.ways_from.result in
-    let run = slice_index_or runs place none in
-    let at = get_at runs place none c.loop-place-test.true in
+    let run = slice_index_or runs place no_run in
+    let at = get_at runs place no_run c.loop-place-test.true in
     record {
       count = ap length c.in_ok-push.ensures.items ∙ length-append ways (one ∷ []) ∙ ap (λ (n : ℕ). n + 1) c.loop-place.invariant.count;
       each = subst (ArePairs (AreWaysOf scope runs) runs) (sym c.in_ok-push.ensures.items)

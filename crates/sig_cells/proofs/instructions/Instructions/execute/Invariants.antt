@@ -1,7 +1,7 @@
 use Rattle.std.proofs.Common.{◌≤◌, ◌-◌}
 use Rattle.sig_cells.specs.Instructions.{cells_of}
 use Rattle.sig_cells.proofs.DoneInARow.{AreDoneTo}
-use Rattle.sig_cells.proofs.instructions.Instructions.do_short.Given as goal
+use Rattle.sig_cells.proofs.instructions.Instructions.execute.Given as goal
 
 abbrev pub decreases-loop-left : goal.decreases-loop-left
 decreases-loop-left l = l.left

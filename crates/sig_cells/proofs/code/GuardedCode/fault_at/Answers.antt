@@ -3,7 +3,7 @@ use Rattle.std.proofs.lemmas.Option.{same_Some}
 use Rattle.sig_plan.specs.declared.ended.Cause.{Cause}
 use Rattle.sig_cells.specs.Instructions.{answer_of}
 use Rattle.sig_cells.specs.declared.instruction.Instruction.{Instruction}
-use Rattle.sig_cells.proofs.code.Code.fault_at.Goals as goal
+use Rattle.sig_cells.proofs.code.GuardedCode.fault_at.Goals as goal
 
 pub come_to-requires : goal.come_to-requires
 come_to-requires c =

@@ -1,7 +1,7 @@
 use Rattle.std.proofs.Common.{◌-◌, length}
 use Rattle.sig_cells.specs.Instructions.{cells_of}
 use Rattle.sig_cells.proofs.BehindRuns.{IsBeforeRun}
-use Rattle.sig_cells.proofs.code.Code.react.Given as goal
+use Rattle.sig_cells.proofs.code.GuardedCode.react.Given as goal
 
 abbrev pub invariant-loop-next : goal.invariant-loop-next
 invariant-loop-next l = record {

@@ -1,5 +1,5 @@
 use Rattle.sig_cells.proofs.{◌≡◌, ◌∙◌, List, length, ap, sym, subst, SigId, AreBelow, AreRuns, AreWays, AskAmong, IsFirst, Run, asks_among, guards_count, scope_of}
-use Rattle.sig_cells.proofs.code.Code.new.Goals as goal
+use Rattle.sig_cells.proofs.code.GuardedCode.new.Goals as goal
 
 pub first_of-first-requires-clause-runs : goal.first_of-first-requires-clause-runs
 first_of-first-requires-clause-runs c = subst (AreRuns c.args.store.now.nodes) (sym c.as_slice-made.ensures.value) c.in_ok-runs.ensures.each
