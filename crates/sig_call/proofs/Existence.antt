@@ -1,5 +1,5 @@
 -- A well-formed program has a flat body: calls do not lead back, so each of them ends.
-use Rattle.sig_call.proofs.Common.{same_Some, ◌≡◌, ◌⊎◌, ◌<◌, ◌≤◌, ℕ, zero, suc, List, [], ◌∷◌, None, Some, Option, Bool, true, false, cond, length, get_or, refl, sym, ap, subst, ◌∙◌, inl, inr, arith, Contains, bytes_eq-Decides, AllByRecursion, flat_map, bytes_eq, Name, Expression, Computed, Called, Equations, Together, Defines, Equal, ProcessModel, FlatEquation, FlatBody, name_of, inputs_of, outputs_of, process_of, all_processes, texts, called_in, called_by, equations_of_model, Copy, Progress, Expands, Ended, Defined, Equated, Expanded, IsFlatBody, called_copy, with_copy, first_copy, first_progress, NoneHolds, candidate, each, Recursive, CallsByName, Reaches, Itself, ByCall, IsWellFormed, IsTree, IsReady, Fits, AreExpandable}
+use Rattle.sig_call.proofs.Common.{same_Some, ◌≡◌, ◌⊎◌, ◌<◌, ◌≤◌, ℕ, zero, suc, List, [], ◌∷◌, None, Some, Option, Bool, true, false, cond, length, get_or, refl, sym, ap, subst, ◌∙◌, inl, inr, arith, Contains, bytes_eq-Decides, AllByRecursion, flat_map, bytes_eq, Name, Expression, Computed, Called, Equations, Defines, Equal, ProcessModel, FlatEquation, FlatBody, name_of, inputs_of, outputs_of, process_of, all_processes, texts, called_in, called_by, equations_of_model, Copy, Progress, Expands, Ended, Defined, Equated, Expanded, IsFlatBody, called_copy, with_copy, first_copy, first_progress, NoneHolds, candidate, each, Recursive, CallsByName, Reaches, Itself, ByCall, IsWellFormed, IsTree, IsReady, Fits, AreExpandable}
 use Rattle.sig_call.proofs.Expandable.{expandable, rules_hold, key_rules}
 use Rattle.sig_call.proofs.Whole.{first_found}
 
@@ -88,14 +88,13 @@ fits_some names arguments (Some called) fits is = absurd cc
 ready_found : (all : List ProcessModel) (equations : List Equations) (text : List ℕ) (k : ℕ) → AllByRecursion (IsReady all) equations
     → k < length (texts (flat_map called_in equations)) → get_or (texts (flat_map called_in equations)) k text ≡ text → process_of all text ≡ None → ⊥
 ready_found all [] text k ready below here none = let no : k < 0 = below in absurd (omega arith)
-ready_found all (Together bodies ∷ rest) text k ready below here none = ready.0
-ready_found all (Defines [] right ∷ rest) text k ready below here none = ready.0
 ready_found all (Defines (n ∷ ns) (Computed e) ∷ rest) text k ready below here none = ready_found all rest text k ready.1 below here none
 ready_found all (Defines (n ∷ ns) (Called name constants arguments) ∷ rest) text zero ready below here none =
     fits_some (n ∷ ns) arguments (process_of all name.text) ready.0.0 (ap (process_of all) here ∙ none)
 ready_found all (Defines (n ∷ ns) (Called name constants arguments) ∷ rest) text (suc k) ready below here none =
     ready_found all rest text k ready.1 (let m : suc k < suc (length (texts (flat_map called_in rest))) = below in omega arith) here none
 ready_found all (Equal operands ∷ rest) text k ready below here none = ready_found all rest text k ready.1 below here none
+ready_found all _ text k ready below here none = ready.0
 
 -- all names are among some processes, or lead to one
 abbrev Left : (all rest : List ProcessModel) → List ℕ → Type 0
@@ -142,8 +141,6 @@ along : (all : List ProcessModel) (equations : List Equations) → AllByRecursio
     → ((text : List ℕ) (q : ProcessModel) → Contains (texts (flat_map called_in equations)) text → process_of all text ≡ Some q → (copy : Copy) (before : Progress) → Expansion all copy (equations_of_model q) before)
     → (copy : Copy) (before : Progress) → Expansion all copy equations before
 along all [] ready deeper copy before = record { after = before; flat = []; expands = Ended }
-along all (Together bodies ∷ rest) ready deeper copy before = elim ready.0 [ ]
-along all (Defines [] right ∷ rest) ready deeper copy before = elim ready.0 [ ]
 along all (Defines (n ∷ ns) (Computed e) ∷ rest) ready deeper copy before =
     let later = along all rest ready.1 deeper copy before in
     subst (λ (ms : List Name). Expansion all copy (Defines (n ∷ ms) (Computed e) ∷ rest) before) (sym ready.0.0)
@@ -156,6 +153,7 @@ along all (Defines (n ∷ ns) (Called name constants arguments) ∷ rest) ready 
 along all (Equal operands ∷ rest) ready deeper copy before =
     let later = along all rest ready.1 deeper copy before in
     record { after = later.after; flat = _; expands = Equated operands later.expands }
+along all _ ready deeper copy before = elim ready.0 [ ]
 
 total : (all : List ProcessModel) → AreExpandable all → (n : ℕ) (text : List ℕ) (p : ProcessModel) → process_of all text ≡ Some p → CallsWithin all n text → (copy : Copy) (before : Progress) → Expansion all copy (equations_of_model p) before
 total all sound zero text p found calls copy before = elim calls [ ]

@@ -32,14 +32,12 @@ rules_found all earlier (x ∷ xs) text p none found =
 -- the equations of a body are no bodies in brackets
 abbrev IsPlain : Equations → Type 0
 IsPlain (Together bodies) = ⊥
-IsPlain (Defines names right) = Unit {0}
-IsPlain (Equal operands) = Unit {0}
+IsPlain _ = Unit {0}
 
 mutual
   plain_in : (e : Equations) → AllByRecursion IsPlain (equations_in e)
   plain_in (Together bodies) = plain_inside bodies
-  plain_in (Defines names right) = (tt, tt)
-  plain_in (Equal operands) = (tt, tt)
+  plain_in _ = (tt, tt)
 
   plain_inside : (bodies : Bodies) → AllByRecursion IsPlain (equations_inside bodies)
   plain_inside no_body = tt

@@ -1,5 +1,5 @@
 -- The places of a flat body are places of its program: what holds at those of the processes holds at those of the flat body.
-use Rattle.sig_call.proofs.Common.{◌≡◌, ◌++◌, ◌+◌, ℕ, suc, List, [], ◌∷◌, None, Some, Option, length, map, sym, subst, AllByRecursion, bytes_eq, Signal, Span, Name, Neg, Expression, Named, Number, Truth, Unary as UnaryForm, Binary as BinaryForm, Delay as DelayForm, Cell as CellForm, Equations, ProcessModel, FlatEquation, FlatBody, inputs_of, name_of, process_of, all_processes, Binding as BoundTo, BoundSignal, BoundConstant, Copy, Progress, Expands, Ended, Defined, Equated, Expanded, IsFlatBody, binding_of, copied_signals, copy_prefix, cluster_of_call, flat_name, flat_of, flat_right, inputs_defined, outputs_defined, signals_declared, Token, InOrder, leaves_of, HasTree, AtOperators, AtPlaces, AtPlacesOfBody, AtPlacesOfEquation, IsWithin, FlatExpression, Sig, Const, all_both}
+use Rattle.sig_call.proofs.Common.{◌≡◌, ◌++◌, ◌+◌, ℕ, suc, List, [], ◌∷◌, None, Some, Option, length, map, sym, subst, AllByRecursion, bytes_eq, Signal, Span, Name, Neg, Expression, Named, Number, Unary as UnaryForm, Binary as BinaryForm, Delay as DelayForm, Cell as CellForm, Equations, ProcessModel, FlatEquation, FlatBody, inputs_of, name_of, process_of, all_processes, Binding as BoundTo, BoundSignal, BoundConstant, Copy, Progress, Expands, Ended, Defined, Equated, Expanded, IsFlatBody, binding_of, copied_signals, copy_prefix, cluster_of_call, flat_name, flat_of, flat_right, inputs_defined, outputs_defined, signals_declared, Token, InOrder, leaves_of, HasTree, AtOperators, AtPlaces, AtPlacesOfBody, AtPlacesOfEquation, IsWithin, FlatExpression, all_both}
 use Rattle.sig_tree.specs.FlatSyntax.{Unary, Binary, Delay, Cell}
 use Rattle.sig_call.proofs.Expandable.{found_all}
 use Rattle.sig_call.proofs.ProcessRules.{all_map}
@@ -14,13 +14,12 @@ name_at Holds (Some (BoundConstant value kind)) at h = h
 
 pub flat_at : (Holds : Span → Type 0) (copy : Copy) (e : Expression) → AtPlacesOf Holds e → AtPlaces Holds (flat_of copy e)
 flat_at Holds copy (Named name) h = name_at Holds (binding_of copy name.text) name.at h
-flat_at Holds copy (Number value at) h = h
-flat_at Holds copy (Truth truth at) h = h
 flat_at Holds copy (UnaryForm Neg (Number value number_at) at) h = h.0
 flat_at Holds copy (UnaryForm op operand at) h = (h.0, flat_at Holds copy operand h.1)
 flat_at Holds copy (BinaryForm op left right at) h = (h.0, flat_at Holds copy left h.1, flat_at Holds copy right h.2)
 flat_at Holds copy (DelayForm operand init at) h = (h.0, flat_at Holds copy operand h.1)
 flat_at Holds copy (CellForm operand held init at) h = (h.0, flat_at Holds copy operand h.1, flat_at Holds copy held h.2)
+flat_at Holds copy _ h = h
 
 pub right_at : (Holds : Span → Type 0) (copy : Copy) (left : Name) (e : Expression) → AtPlacesOf Holds e → AtPlaces Holds (flat_right copy left e)
 right_at Holds copy left (DelayForm operand None at) h = (h.0, flat_at Holds copy operand h.1)
@@ -32,12 +31,11 @@ operands_at Holds copy (e ∷ es) h = (flat_at Holds copy e h.0, operands_at Hol
 
 -- what holds at the places of a flat expression makes something hold at those of its operators
 pub operators_of : (P Q : Span → Type 0) → ((at : Span) → P at → Q at) → (e : FlatExpression) → AtPlaces P e → AtOperators Q e
-operators_of P Q so (Sig number at) h = tt
-operators_of P Q so (Const value kind at) h = tt
 operators_of P Q so (Unary op operand at) h = (so at h.0, operators_of P Q so operand h.1)
 operators_of P Q so (Binary op left right at) h = (so at h.0, operators_of P Q so left h.1, operators_of P Q so right h.2)
 operators_of P Q so (Delay operand init at) h = (so at h.0, operators_of P Q so operand h.1)
 operators_of P Q so (Cell operand held init at) h = (so at h.0, operators_of P Q so operand h.1, operators_of P Q so held h.2)
+operators_of P Q so _ h = tt
 
 -- the definitions of a call
 inputs_at : (Holds : Span → Type 0) (copy : Copy) (base : ℕ) (es : List Expression) → AllByRecursion (AtPlacesOf Holds) es → AllByRecursion (AtPlacesOfEquation Holds) (inputs_defined copy base es)

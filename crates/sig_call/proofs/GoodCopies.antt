@@ -33,9 +33,8 @@ signals_own p =
 -- constants for parameters, each a value of its kind
 abbrev pub AreValues : List Declaration → List ℤ → Type 0
 AreValues [] [] = Unit {0}
-AreValues [] (c ∷ cs) = ⊥
-AreValues (p ∷ ps) [] = ⊥
 AreValues (p ∷ ps) (c ∷ cs) = IsValue Bounded p.kind c × AreValues ps cs
+AreValues _ _ = ⊥
 
 -- signals of the kinds of declarations, from a number on
 abbrev pub AreNumbered : List Signal → ℕ → List Declaration → Type 0
@@ -58,11 +57,10 @@ suits_params : (signals : List Signal) (params : List Declaration) (constants : 
     → AllByRecursion (λ d. d.role ≡ Parameter) params → AreValues params constants → Suits signals (declaration_of ds t) (binding_found bs t)
     → Suits signals (declaration_of (params ++ ds) t) (binding_found (bound_constants params constants ++ bs) t)
 suits_params signals [] [] ds bs t role values rest = rest
-suits_params signals [] (c ∷ cs) ds bs t role values rest = absurd values
-suits_params signals (p ∷ ps) [] ds bs t role values rest = absurd values
 suits_params signals (p ∷ ps) (c ∷ cs) ds bs t role values rest =
     suits_step signals (bytes_eq p.name.text t) p (p.name.text, BoundConstant c p.kind) (declaration_of (ps ++ ds) t) (find (λ b. bytes_eq b.0 t) (bound_constants ps cs ++ bs))
     (parameter_kind_is p role.0, refl, values.0) (suits_params signals ps cs ds bs t role.1 values.1 rest)
+suits_params signals _ _ ds bs t role values rest = absurd values
 
 -- a copy whose signals stand where they are numbered
 pub good_copy : (signals : List Signal) (base : ℕ) (constants : List ℤ) (p : ProcessModel) (copy : Copy) → copy.process ≡ p → copy.bindings ≡ bindings_of base constants p

@@ -13,14 +13,9 @@ fits_neg (suc n) below = record { sfits = omega arith }
 -- kinds that are the same, or not
 pub same_kind : (k l : Kind) → (k ≡ l) ⊎ (k ≢ l)
 same_kind Integer Integer = inl refl
-same_kind Integer Boolean = inr (λ e. absurd cc)
-same_kind Integer Event = inr (λ e. absurd cc)
-same_kind Boolean Integer = inr (λ e. absurd cc)
 same_kind Boolean Boolean = inl refl
-same_kind Boolean Event = inr (λ e. absurd cc)
-same_kind Event Integer = inr (λ e. absurd cc)
-same_kind Event Boolean = inr (λ e. absurd cc)
 same_kind Event Event = inl refl
+same_kind _ _ = inr (λ e. absurd cc)
 
 takes_by : (wanted given : Kind) → (given ≡ wanted) ⊎ (given ≢ wanted) → (wanted ≡ Boolean) ⊎ (wanted ≢ Boolean) → (given ≡ Event) ⊎ (given ≢ Event) → ((Takes wanted given → ⊥) → ⊥) → Takes wanted given
 takes_by wanted given (inl same) truth event h = inl same
@@ -34,13 +29,11 @@ takes_if wanted given h = takes_by wanted given (same_kind given wanted) (same_k
 -- what takes a kind that is stored has it, so that its own init is one for it
 pub stored_twice : (k : Kind) → stored (stored k) ≡ stored k
 stored_twice Integer = refl
-stored_twice Boolean = refl
-stored_twice Event = refl
+stored_twice _ = refl
 
 no_event : (k : Kind) → stored k ≡ Event → ⊥
 no_event Integer is = absurd cc
-no_event Boolean is = absurd cc
-no_event Event is = absurd cc
+no_event _ is = absurd cc
 
 pub takes_stored : (wanted k : Kind) → Takes wanted (stored k) → stored wanted ≡ stored k
 takes_stored wanted k (inl same) = ap stored (sym same) ∙ stored_twice k
@@ -76,11 +69,10 @@ pub allowed : (rule : ConstantRule) (first second : Bool) → (MayNotBeFirst rul
     → (MayNotBeSecond rule × (first ≡ false) × (second ≡ true) → ⊥) → Allows rule first second
 allowed rule true true f g h = absurd (g (refl, refl))
 allowed NoConstant true false f g h = absurd (f (tt, refl, refl))
-allowed NoConstant false true f g h = absurd (h (tt, refl, refl))
 allowed NoConstant false false f g h = (refl, refl)
 allowed OneConstant true false f g h = refl
 allowed OneConstant false true f g h = refl
 allowed OneConstant false false f g h = refl
 allowed FirstConstant true false f g h = refl
-allowed FirstConstant false true f g h = absurd (h (tt, refl, refl))
 allowed FirstConstant false false f g h = refl
+allowed _ false true f g h = absurd (h (tt, refl, refl))

@@ -1,14 +1,13 @@
 -- How many bytes of a text the leaves of a tree are: no more than there are, and in each process more than its
 -- name, a declared name and 19 other bytes.
-use Rattle.sig_call.proofs.Common.{◌≡◌, ◌++◌, ◌+◌, ◌-◌, ◌≤◌, ◌∙◌, ℕ, suc, List, [], ◌∷◌, length, drop, map, codes, sym, ap, subst, inl, inr, arith, slice_range, length-take, AllByRecursion, flat_map, option_to_list, option_map, Span, Kind, Integer, Boolean, Event, Token, TokenKind, NameToken, Word, NumberToken, Label, Mark, Last, InOrder, text_of, Item, Declared, Equations, Together, Defines, Equal, Heading, Placement, ProcessModel, Modelled, ProcessModels, no_model, more_models, Declaration, Role, Input, Output, Local, declared_as, name_of, with_inner, those_inner, signals_declared, Terminal, name, word, number, label, mark, Leaf, leaf, kind_word, terminal_of, leaf_of, leaves_of, Limits, Each, Further, Separated, Between, IsBody, IsGroup, AreGroups, IsInterface, IsModel, IsProcess, IsLocalGroup, AreLocals, IsPlainItem, IsItem, all_both, all_so}
+use Rattle.sig_call.proofs.Common.{◌≡◌, ◌++◌, ◌+◌, ◌-◌, ◌≤◌, ◌∙◌, ℕ, suc, List, [], ◌∷◌, length, drop, map, codes, sym, ap, subst, inl, inr, arith, slice_range, length-take, AllByRecursion, flat_map, option_to_list, option_map, Span, Kind, Integer, Token, TokenKind, NameToken, InOrder, text_of, Item, Declared, Equations, Together, Defines, Equal, Heading, Placement, ProcessModel, Modelled, ProcessModels, no_model, more_models, Declaration, Role, Input, Output, Local, declared_as, name_of, with_inner, those_inner, signals_declared, Terminal, name, word, mark, Leaf, leaf, kind_word, terminal_of, leaf_of, leaves_of, Limits, Each, Further, Separated, Between, IsBody, IsGroup, AreGroups, IsInterface, IsModel, IsProcess, IsLocalGroup, AreLocals, IsPlainItem, IsItem, all_both, all_so}
 
 -- the bytes of a leaf; those of numbers and labels are left out
 abbrev pub bytes_in : Terminal → ℕ
 bytes_in (name text) = length text
 bytes_in (word text) = length text
-bytes_in (number n) = 0
-bytes_in (label text) = 0
 bytes_in (mark text) = length text
+bytes_in _ = 0
 
 abbrev pub leaf_bytes : List Leaf → ℕ
 leaf_bytes [] = 0
@@ -24,11 +23,7 @@ slice_few text i j = omega (arith, length-take (j - i) (drop i text))
 
 token_bytes : (kind : TokenKind) (bytes : List ℕ) (at : Span) → leaf_bytes (option_to_list (option_map (λ terminal. leaf terminal at) (terminal_of kind bytes))) ≤ length bytes
 token_bytes NameToken bytes at = omega arith
-token_bytes Word bytes at = omega arith
-token_bytes (NumberToken value) bytes at = omega arith
-token_bytes Label bytes at = omega arith
-token_bytes Mark bytes at = omega arith
-token_bytes Last bytes at = omega arith
+token_bytes _ bytes at = omega arith
 
 bytes_from : (text : List ℕ) (tokens : List Token) (i : ℕ) → InOrder text i tokens → leaf_bytes (leaves_of text tokens) + i ≤ length text
 bytes_from text [] i order = (let within : i ≤ length text = order in omega arith)
@@ -81,8 +76,7 @@ item_bytes item leaves h = (let whole : leaf_bytes leaves ≡ length item.name.t
 
 kind_long : (kind : Kind) → 5 ≤ bytes_in (kind_word kind)
 kind_long Integer = omega arith
-kind_long Boolean = omega arith
-kind_long Event = omega arith
+kind_long _ = omega arith
 
 group_room : (IsOne : Item → List Leaf → Type 0) → ((item : Item) (leaves : List Leaf) → IsOne item leaves → length item.name.text ≤ leaf_bytes leaves)
     → (group : Declared) (leaves : List Leaf) → IsGroup IsOne group leaves → GroupHasRoom (leaf_bytes leaves) group
@@ -146,13 +140,12 @@ body_bytes limits (Together bodies) depth leaves h = (let whole : leaf_bytes lea
 body_bytes limits (Defines names right) depth leaves h =
     let whole : leaf_bytes leaves ≡ leaf_bytes h.1 + (2 + leaf_bytes h.2) = ap leaf_bytes h.3 ∙ leaf_bytes_append h.1 (leaf (mark (codes ":=")) h.0 ∷ h.2) in
     omega arith
-body_bytes limits (Equal []) depth leaves h = elim h [ ]
-body_bytes limits (Equal (e ∷ [])) depth leaves h = elim h [ ]
 body_bytes limits (Equal (e ∷ f ∷ others)) depth leaves h =
     let first = h.0 in
     let whole : leaf_bytes leaves ≡ leaf_bytes first.0 + leaf_bytes first.1 = ap leaf_bytes first.2 ∙ leaf_bytes_append first.0 first.1 in
     let behind : leaf_bytes first.1 ≡ 2 + leaf_bytes (first.4.1 ++ first.4.2) = ap leaf_bytes first.4.3 in
     omega arith
+body_bytes limits _ depth leaves h = elim h [ ]
 
 -- locals
 local_group_room : (group : Declared) (leaves : List Leaf) → IsLocalGroup group leaves → GroupHasRoom (leaf_bytes leaves) group

@@ -29,9 +29,8 @@ number_at base (d ∷ ds) (suc k) t apart h is =
 -- parameters have other names
 past_params : (params : List Declaration) (constants : List ℤ) (bs : List (List ℕ × BoundTo)) (t : List ℕ) → AllByRecursion (λ u. u ≢ t) (declared_texts params)
     → binding_found (bound_constants params constants ++ bs) t ≡ binding_found bs t
-past_params [] constants bs t others = refl
-past_params (p ∷ ps) [] bs t others = refl
 past_params (p ∷ ps) (c ∷ cs) bs t others = found_later (p.name.text, _) (bound_constants ps cs ++ bs) t (not_it t p.name.text others.0) ∙ past_params ps cs bs t others.1
+past_params _ _ bs t others = refl
 
 apart_across : (xs ys : List (List ℕ)) (t : List ℕ) → Apart (xs ++ ys) → Contains ys t → AllByRecursion (λ u. u ≢ t) xs
 apart_across [] ys t apart here = tt

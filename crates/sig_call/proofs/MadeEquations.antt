@@ -16,8 +16,7 @@ whole signals flat kind constant is bare =
 given_by : (role : Role) (kind k : Kind) → elim role as (λ _. Option Kind) [ Parameter ↦ Some kind | Input ↦ None | Output ↦ None | Local ↦ None ] ≡ Some k → (role ≡ Input) ⊎ (role ≡ Parameter)
 given_by Parameter kind k is = inr refl
 given_by Input kind k is = inl refl
-given_by Output kind k is = absurd cc
-given_by Local kind k is = absurd cc
+given_by _ kind k is = absurd cc
 
 -- the declaration of a left side, and the signal that it stands for
 record LeftSide (signals : List Signal) (declared : Option Declaration) (bound : Option BoundTo) : Type 0 where

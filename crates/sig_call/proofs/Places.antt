@@ -33,9 +33,6 @@ abbrev pub StandsAt : (Span → Type 0) → Leaf → Type 0
 StandsAt Holds l = Holds l.at
 
 bare_placed : (Holds : Span → Type 0) (limits : Limits) (e : Expression) (depth : ℕ) (leaves : List Leaf) → IsBare limits e depth leaves → AllLeaves (StandsAt Holds) leaves → AtPlacesOf Holds e
-bare_placed Holds limits (Named n) depth leaves h placed = (subst (AllByRecursion (StandsAt Holds)) h placed.all).0
-bare_placed Holds limits (Number value at) depth leaves h placed = (subst (AllByRecursion (StandsAt Holds)) h placed.all).0
-bare_placed Holds limits (Truth truth at) depth leaves h placed = (subst (AllByRecursion (StandsAt Holds)) h placed.all).0
 bare_placed Holds limits (Unary op operand at) depth leaves h placed = (
   (subst (AllByRecursion (StandsAt Holds)) h.2 placed.all).0,
   leaves_enclosed limits (level_of operand) (IsBare limits operand) (bare_placed Holds limits operand) h.3.0 _ _ h.1 h.3.1 (leaves_behind _ h.1 h.2 placed),
@@ -56,6 +53,7 @@ bare_placed Holds limits (Cell operand held init at) depth leaves h placed =
       leaves_enclosed limits (level_of operand) (IsBare limits operand) (bare_placed Holds limits operand) h.4.0 _ _ h.0 h.4.1 (leaves_left h.0 _ h.3 placed),
       leaves_enclosed limits (level_of held) (IsBare limits held) (bare_placed Holds limits held) h.5.0 _ _ h.1 h.5.1 (leaves_left h.1 h.2 refl (leaves_behind _ (h.1 ++ h.2) refl behind)),
     )
+bare_placed Holds limits _ depth leaves h placed = (subst (AllByRecursion (StandsAt Holds)) h placed.all).0
 
 expression_placed : (Holds : Span → Type 0) (limits : Limits) (depth : ℕ) (e : Expression) (leaves : List Leaf) → IsExpression limits depth e leaves → AllLeaves (StandsAt Holds) leaves → AtPlacesOf Holds e
 expression_placed Holds limits depth e leaves h placed = leaves_enclosed limits (level_of e) (IsBare limits e) (bare_placed Holds limits e) h.0 _ _ leaves h.1 placed
@@ -74,9 +72,8 @@ right_placed Holds limits depth (Called n constants arguments) leaves h placed =
     listed_all (IsExpression limits depth) _ (AtPlacesOf Holds) (λ e l. expression_placed Holds limits depth e l) arguments h.4.2 h.4.4 (leaves_between _ _ _ h.1 h.4 back)
 
 clocks_placed : (Holds : Span → Type 0) (limits : Limits) (depth : ℕ) (operands : List Expression) (leaves : List Leaf) → IsClockEquation limits depth operands leaves → AllLeaves (StandsAt Holds) leaves → AllByRecursion (AtPlacesOf Holds) operands
-clocks_placed Holds limits depth [] leaves h placed = elim h [ ]
-clocks_placed Holds limits depth (e ∷ []) leaves h placed = elim h [ ]
 clocks_placed Holds limits depth (e ∷ f ∷ others) leaves h placed = separated_all (IsExpression limits depth) _ (AtPlacesOf Holds) (λ x l. expression_placed Holds limits depth x l) (e ∷ f ∷ others) leaves h.0 placed
+clocks_placed Holds limits depth _ leaves h placed = elim h [ ]
 
 mutual
   body_placed : (Holds : Span → Type 0) (limits : Limits) (body : Equations) (depth : ℕ) (leaves : List Leaf) → IsBody limits body depth leaves → AllLeaves (StandsAt Holds) leaves → AllByRecursion (IsPlaced Holds) (equations_in body)

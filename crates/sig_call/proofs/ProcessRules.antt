@@ -1,5 +1,5 @@
 -- What the rules say of the processes of a well-formed program.
-use Rattle.sig_call.proofs.Common.{◌≡◌, ◌++◌, ◌<◌, ℕ, suc, Bool, true, false, cond, List, [], ◌∷◌, None, Some, Option, map, length, Contains, refl, sym, subst, inl, inr, arith, bytes_eq-Decides, AllByRecursion, flat_map, bytes_eq, Name, Item, Declared, Equations, Together, Defines, Equal, ProcessModel, Role, Parameter, Input, Declaration, declared_as, heading_of_model, declarations, declaration_of, params_of, inputs_of, outputs_of, locals_of, name_of, process_of, all_processes, texts, left_sides, left_sides_of, equations_of_model, uses_of_equation, uses_of_right, signals_used, Candidate, NoneHolds, candidate, each, DefinedTwice, Undefined, InputDefined, IsGiven, unknown_names, declared_twice, defined_twice, undefined, clashes, clashes_of_equation, clashes_of_inits, clash_of_init, bare_constants, bare_in_equation, bad_calls, bad_calls_of, recursive_calls, bad_pragmas, missing_inits_in, missing_inits_of_equation, IsWellFormed, rules_on, each_append, IsBounded, IsBoundedEquation, IsBoundedInit, IsBoundedProcess, IsTree, IsReady, contained_or_not, all_both, all_so}
+use Rattle.sig_call.proofs.Common.{◌≡◌, ◌++◌, ◌<◌, ℕ, suc, Bool, true, false, cond, List, [], ◌∷◌, None, Some, Option, map, length, Contains, refl, sym, subst, inl, inr, arith, bytes_eq-Decides, AllByRecursion, flat_map, bytes_eq, Name, Item, Declared, Equations, Defines, ProcessModel, Role, Parameter, Input, Declaration, declared_as, heading_of_model, declarations, declaration_of, params_of, inputs_of, outputs_of, locals_of, name_of, process_of, all_processes, texts, left_sides, left_sides_of, equations_of_model, uses_of_equation, uses_of_right, signals_used, Candidate, NoneHolds, candidate, each, DefinedTwice, Undefined, InputDefined, IsGiven, unknown_names, declared_twice, defined_twice, undefined, clashes, clashes_of_equation, clashes_of_inits, clash_of_init, bare_constants, bare_in_equation, bad_calls, bad_calls_of, recursive_calls, bad_pragmas, missing_inits_in, missing_inits_of_equation, IsWellFormed, rules_on, each_append, IsBounded, IsBoundedEquation, IsBoundedInit, IsBoundedProcess, IsTree, IsReady, contained_or_not, all_both, all_so}
 use Rattle.sig_tree.specs.Rules.{inputs_defined}
 use Rattle.sig_call.proofs.Expandable.{expandable, found_all, known_in_equations, none_parts, rules_hold, unknown_at}
 use Rattle.sig_call.proofs.LeftSides.{DefinesOnce}
@@ -113,11 +113,10 @@ names_known all declared (n ∷ ns) none = (none.0, names_known all declared ns 
 
 pub lefts_known : (all : List ProcessModel) (declared : List Declaration) (q : Equations) → NoneHolds (each (unknown_at all declared) (uses_of_equation q))
     → AllByRecursion (λ name. declaration_of declared name.text ≡ None → ⊥) (left_sides q)
-lefts_known all declared (Together bodies) none = tt
 lefts_known all declared (Defines names right) none =
     names_known all declared names (none_parts (each (unknown_at all declared) (signals_used names)) (each (unknown_at all declared) (uses_of_right right))
     (subst NoneHolds (each_append (unknown_at all declared) (signals_used names) (uses_of_right right)) none)).0
-lefts_known all declared (Equal operands) none = tt
+lefts_known all declared _ none = tt
 
 -- the rules, one by one
 pub record Lawful (all before : List ProcessModel) (p : ProcessModel) : Type 0 where

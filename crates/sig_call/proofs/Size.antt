@@ -34,9 +34,8 @@ call_weight inputs body outputs later =
 
 -- a clock equation counts as before
 equal_weight : (copy : Copy) (operands : List Expression) → flat_weight (EqualFlat (map (flat_of copy) operands) copy.prefix) ≡ weight (Equal operands)
-equal_weight copy [] = refl
-equal_weight copy (e ∷ []) = refl
 equal_weight copy (e ∷ f ∷ operands) = ap suc (length-map operands (flat_of copy))
+equal_weight copy _ = refl
 
 flat_size : {all : List ProcessModel} {copy : Copy} {equations : List Equations} {before after : Progress} {flat : List FlatEquation} (size : ℕ) → AreExpandable all
     → ((text : List ℕ) (p : ProcessModel) → process_of all text ≡ Some p → size_of p ≤ size) → AllByRecursion (IsReady all) equations

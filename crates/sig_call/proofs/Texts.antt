@@ -1,15 +1,13 @@
 -- The trees of texts: their numbers are small, the integers among their constants have 64 bits, definitions have
 -- left sides, and processes are no longer than the text.
-use Rattle.sig_call.proofs.Common.{◌≡◌, ◌≢◌, ◌++◌, ◌+◌, ◌<◌, ◌≤◌, ◌^◌, ℕ, zero, suc, List, [], ◌∷◌, None, Some, Option, length, map, refl, sym, ap, subst, ◌∙◌, inl, inr, arith, codes, length-append, length-map, AllByRecursion, flat_map, option_to_list, option_map, Span, Bounded, IsInteger, Token, TokenKind, NameToken, Word, NumberToken, Label, Mark, Last, token_at, InOrder, EndsOnce, Lexeme, lexeme_of, lexemes, text_of, the_end, IsNameText, Spells, IsSpelled, Name, Constant, Int, Truthful, Param, Item, Expression, Named, Number, Truth, Unary, Binary, Delay, Cell, Declared, RightSide, Computed, Called, Equations, Together, Defines, Equal, Bodies, no_body, more_bodies, Heading, ProcessModel, Modelled, ProcessModels, no_model, more_models, Declaration, Role, Input, Output, declared_as, equations_in, equations_inside, equations_of_model, with_inner, those_inner, all_processes, Terminal, name, word, number, label, mark, Leaf, leaf, terminal_of, leaf_of, leaves_of, Limits, Each, Further, Separated, Listed, Between, Enclosed, IsBare, IsConstant, IsExpression, IsInit, IsOptionalInit, level_of, AreConstants, IsLeft, IsRight, IsDefinition, IsClockEquation, IsBody, AreBodies, AreFurtherBodies, IsGroup, AreGroups, IsInterface, IsModel, IsProcess, AreLocals, IsPlainItem, IsItem, HasTree, IsBoundedConstant, IsBoundedEquation, IsBoundedInit, IsBoundedRight, HasBoundedInits, IsSmall, IsSmallRight, IsRead, IsTree, IsSized, size_of, weights, all_both}
+use Rattle.sig_call.proofs.Common.{◌≡◌, ◌≢◌, ◌++◌, ◌+◌, ◌<◌, ◌≤◌, ◌^◌, ℕ, zero, suc, List, [], ◌∷◌, None, Some, Option, length, map, refl, sym, ap, subst, ◌∙◌, inl, inr, arith, codes, length-append, length-map, AllByRecursion, flat_map, option_to_list, option_map, Span, Bounded, IsInteger, Token, TokenKind, NameToken, NumberToken, Last, token_at, InOrder, EndsOnce, Lexeme, lexeme_of, lexemes, text_of, the_end, IsNameText, Spells, IsSpelled, Name, Constant, Int, Item, Expression, Number, Unary, Binary, Delay, Cell, Declared, RightSide, Computed, Called, Equations, Together, Defines, Equal, Bodies, no_body, more_bodies, Heading, ProcessModel, Modelled, ProcessModels, no_model, more_models, Declaration, Role, Input, Output, declared_as, equations_in, equations_inside, equations_of_model, with_inner, those_inner, all_processes, Terminal, name, number, mark, Leaf, leaf, terminal_of, leaf_of, leaves_of, Limits, Each, Further, Separated, Listed, Between, Enclosed, IsBare, IsConstant, IsExpression, IsInit, IsOptionalInit, level_of, AreConstants, IsLeft, IsRight, IsDefinition, IsClockEquation, IsBody, AreBodies, AreFurtherBodies, IsGroup, AreGroups, IsInterface, IsModel, IsProcess, AreLocals, IsPlainItem, IsItem, HasTree, IsBoundedConstant, IsBoundedEquation, IsBoundedInit, IsBoundedRight, HasBoundedInits, IsSmall, IsSmallRight, IsRead, IsTree, IsSized, size_of, weights, all_both}
 use Rattle.sig_call.proofs.KindRules.{fits_neg, fits_pos}
 
 -- a leaf's number is small, and its name is spelled as one
 abbrev pub SmallTerminal : Terminal → Type 0
 SmallTerminal (name text) = IsNameText text
-SmallTerminal (word text) = Unit {0}
 SmallTerminal (number n) = n < 2 ^ 63
-SmallTerminal (label text) = Unit {0}
-SmallTerminal (mark text) = Unit {0}
+SmallTerminal _ = Unit {0}
 
 abbrev pub SmallLeaf : Leaf → Type 0
 SmallLeaf l = SmallTerminal l.terminal
@@ -57,8 +55,7 @@ leaves_enclosed limits level Bare then (suc parentheses) wanted depth leaves h s
 constant_bounded : (constant : Constant) (leaves : List Leaf) → IsConstant constant leaves → Small leaves → IsBoundedConstant constant
 constant_bounded (Int value at) leaves (inl h) small = subst (IsInteger Bounded) (sym h.1) (fits_pos h.0 (subst (AllByRecursion SmallLeaf) h.2 small.all).0)
 constant_bounded (Int value at) leaves (inr h) small = subst (IsInteger Bounded) (sym h.2) (fits_neg h.0 (subst (AllByRecursion SmallLeaf) h.3 small.all).1.0)
-constant_bounded (Truthful truth at) leaves h small = tt
-constant_bounded (Param n) leaves h small = tt
+constant_bounded _ leaves h small = tt
 
 init_bounded : (init : Constant) (leaves : List Leaf) → IsInit init leaves → Small leaves → IsBoundedConstant init
 init_bounded init leaves h small = constant_bounded init h.1 h.3 (leaves_behind _ h.1 h.2 small)
@@ -72,9 +69,7 @@ abbrev IsFine : Expression → Type 0
 IsFine e = IsSmall e × HasBoundedInits e
 
 bare_fine : (limits : Limits) (e : Expression) (depth : ℕ) (leaves : List Leaf) → IsBare limits e depth leaves → Small leaves → IsFine e
-bare_fine limits (Named n) depth leaves h small = (tt, tt)
 bare_fine limits (Number value at) depth leaves h small = ((subst (AllByRecursion SmallLeaf) h small.all).0, tt)
-bare_fine limits (Truth truth at) depth leaves h small = (tt, tt)
 bare_fine limits (Unary op operand at) depth leaves h small =
     leaves_enclosed limits (level_of operand) (IsBare limits operand) (bare_fine limits operand) h.3.0 _ _ h.1 h.3.1 (leaves_behind _ h.1 h.2 small)
 bare_fine limits (Binary op left right at) depth leaves h small =
@@ -89,6 +84,7 @@ bare_fine limits (Cell operand held init at) depth leaves h small =
     let first = leaves_enclosed limits (level_of operand) (IsBare limits operand) (bare_fine limits operand) h.4.0 _ _ h.0 h.4.1 (leaves_left h.0 _ h.3 small) in
     let second = leaves_enclosed limits (level_of held) (IsBare limits held) (bare_fine limits held) h.5.0 _ _ h.1 h.5.1 (leaves_left h.1 h.2 refl behind) in
     ((first.0, second.0), (first.1, second.1, init_bounded init h.2 h.6 (leaves_right h.1 h.2 refl behind)))
+bare_fine limits _ depth leaves h small = (tt, tt)
 
 expression_fine : (limits : Limits) (depth : ℕ) (e : Expression) (leaves : List Leaf) → IsExpression limits depth e leaves → Small leaves → IsFine e
 expression_fine limits depth e leaves h small = leaves_enclosed limits (level_of e) (IsBare limits e) (bare_fine limits e) h.0 _ _ leaves h.1 small
@@ -180,8 +176,6 @@ definition_read limits depth names right leaves h small =
     }
 
 clocks_read : (limits : Limits) (depth : ℕ) (operands : List Expression) (leaves : List Leaf) → IsClockEquation limits depth operands leaves → Small leaves → ReadBody (Equal operands ∷ []) leaves
-clocks_read limits depth [] leaves h small = elim h [ ]
-clocks_read limits depth (e ∷ []) leaves h small = elim h [ ]
 clocks_read limits depth (e ∷ f ∷ others) leaves h small =
     let fine = all_fine (e ∷ f ∷ others) (separated_all (IsExpression limits depth) _ IsFine (λ x l. expression_fine limits depth x l) (e ∷ f ∷ others) leaves h.0 small) in
     record {
@@ -191,6 +185,7 @@ clocks_read limits depth (e ∷ f ∷ others) leaves h small =
           let whole : length leaves ≡ length h.0.0 + length h.0.1 = ap length h.0.2 ∙ length-append h.0.0 h.0.1 in
           omega arith;
     }
+clocks_read limits depth _ leaves h small = elim h [ ]
 
 both_read : {xs ys : List Equations} {front back leaves : List Leaf} → ReadBody xs front → ReadBody ys back → length front + length back ≤ length leaves → ReadBody (xs ++ ys) leaves
 both_read {xs} {ys} {front} {back} {leaves} h k within = record {
@@ -318,11 +313,9 @@ each_fine limits (p ∷ ps) leaves size h small within =
 -- tokens
 terminal_small : (kind : TokenKind) (bytes : List ℕ) (at : Span) → Spells kind bytes → AllByRecursion SmallLeaf (option_to_list (option_map (λ terminal. leaf terminal at) (terminal_of kind bytes)))
 terminal_small NameToken bytes at spelled = (spelled.0, tt)
-terminal_small Word bytes at spelled = (tt, tt)
 terminal_small (NumberToken value) bytes at spelled = ((let low : value ≤ 9223372036854775807 = spelled.not_above in omega arith), tt)
-terminal_small Label bytes at spelled = (tt, tt)
-terminal_small Mark bytes at spelled = (tt, tt)
 terminal_small Last bytes at spelled = elim spelled [ ]
+terminal_small _ bytes at spelled = (tt, tt)
 
 no_leaf : (kind : TokenKind) (bytes : List ℕ) (at : Span) → kind ≡ Last → AllByRecursion SmallLeaf (option_to_list (option_map (λ terminal. leaf terminal at) (terminal_of kind bytes)))
 no_leaf kind bytes at is = subst (λ (k : TokenKind). AllByRecursion SmallLeaf (option_to_list (option_map (λ terminal. leaf terminal at) (terminal_of k bytes)))) (sym is) tt

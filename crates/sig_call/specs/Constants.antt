@@ -1,7 +1,7 @@
 -- What is asked of the constants of a program: their integers have 64 bits, as those of each tree that was
 -- read from a text.
 use Rattle.std.specs.Prelude.{◌++◌}
-use Rattle.sig_call.specs.Prelude.{List, Option, None, Some, ⊤, AllByRecursion, Bounded, IsInteger, Constant, Int, Bool as Truthful, Param, Expression, Named, Number, Truth, Unary, Binary, Delay, Cell, RightSide, Computed, Called, Equations, Together, Defines, ProcessModel, outputs_of, locals_of, all_processes, equations_of_model}
+use Rattle.sig_call.specs.Prelude.{List, Option, None, Some, ⊤, AllByRecursion, Bounded, IsInteger, Constant, Int, Bool as Truthful, Param, Expression, Unary, Binary, Delay, Cell, RightSide, Computed, Called, Equations, Together, Defines, ProcessModel, outputs_of, locals_of, all_processes, equations_of_model}
 use Rattle.sig_tree.specs.Syntax.{Equal}
 
 abbrev pub IsBoundedConstant : Constant → Type 0
@@ -15,13 +15,11 @@ IsBoundedInit (Some init) = IsBoundedConstant init
 
 -- the inits in an expression
 abbrev pub HasBoundedInits : Expression → Type 0
-HasBoundedInits (Named name) = ⊤
-HasBoundedInits (Number value at) = ⊤
-HasBoundedInits (Truth truth at) = ⊤
 HasBoundedInits (Unary op operand at) = HasBoundedInits operand
 HasBoundedInits (Binary op left right at) = HasBoundedInits left × HasBoundedInits right
 HasBoundedInits (Delay operand init at) = HasBoundedInits operand × IsBoundedInit init
 HasBoundedInits (Cell operand held init at) = HasBoundedInits operand × HasBoundedInits held × IsBoundedConstant init
+HasBoundedInits _ = ⊤
 
 -- the constants of a right side
 abbrev pub IsBoundedRight : RightSide → Type 0

@@ -125,8 +125,7 @@ module _ (nodes : List Node) (guard : Ref) (links : List LinkInfo) (clusters n a
       ≡ option_map (λ (l : ℕ). unguarded (Report l) (2 * n)) (if b then (if d then Some number else None) else None)
   reported true true d number is_not = cc
   reported true false true number is_not = ap Some (unguarded_is (Report number) (2 * n))
-  reported true false false number is_not = refl
-  reported false c d number is_not = refl
+  reported _ _ _ number is_not = refl
 
   pub collector_is : (actor == clusters) ≡ true → Ends ++ doing nodes guard (2 * n + 1) Commit ∷ [] ≡ at_end links clusters n actor
   collector_is test =

@@ -1,5 +1,5 @@
 -- The text of a kernel's code is one.
-use Rattle.sig_code.proofs.Common.{◌≡◌, ◌<◌, ◌+◌, ◌++◌, ℕ, List, [], ◌∷◌, length, refl, sym, ap, ◌∙◌, subst, arith, zero, suc, Option, None, Some, true, codes, slice_get, decimal, enumerate_from, flat_map, act_text, actor_text, code_text_of, op_text, step_text, what_text, Node, Kernel, CodeView, Instruction, instructions_of, Operation, operations_in, IsAccepted, PlanView, numbers_of, Step, StepKind, Do, Send, Receive, Report, Collect, Commit, Op, same_actors, same_instructions, same_operations, IsCodeText, slice_get-get_or, slice_get_within}
+use Rattle.sig_code.proofs.Common.{◌≡◌, ◌<◌, ◌+◌, ◌++◌, ℕ, List, [], ◌∷◌, length, refl, sym, ap, ◌∙◌, subst, arith, suc, Option, None, Some, true, codes, slice_get, decimal, enumerate_from, flat_map, act_text, actor_text, code_text_of, op_text, step_text, what_text, Node, Kernel, CodeView, Instruction, instructions_of, Operation, operations_in, IsAccepted, PlanView, numbers_of, Step, StepKind, Do, Op, same_actors, same_instructions, same_operations, IsCodeText, slice_get-get_or, slice_get_within}
 
 -- ---- texts of lists
 
@@ -7,8 +7,6 @@ use Rattle.sig_code.proofs.Common.{◌≡◌, ◌<◌, ◌+◌, ◌++◌, ℕ, L
 same_texts : {X Y : Type 0} (f : ℕ × X → List ℕ) (g : ℕ × Y → List ℕ) (n : ℕ) (xs : List X) (ys : List Y) → length xs ≡ length ys
     → ((k : ℕ) (x : X) (y : Y) → slice_get xs k ≡ Some x → slice_get ys k ≡ Some y → f (n + k, x) ≡ g (n + k, y)) → flat_map f (enumerate_from n xs) ≡ flat_map g (enumerate_from n ys)
 same_texts f g n [] [] count each = refl
-same_texts f g n [] (y ∷ ys) count each = absurd (omega (arith, count))
-same_texts f g n (x ∷ xs) [] count each = absurd (omega (arith, count))
 same_texts f g n (x ∷ xs) (y ∷ ys) count each =
     let here : n + 0 ≡ n = omega arith in
     let first : f (n, x) ≡ g (n, y) = ap (λ m. f (m, x)) (sym here) ∙ each 0 x y refl refl ∙ ap (λ m. g (m, y)) here in
@@ -16,6 +14,7 @@ same_texts f g n (x ∷ xs) (y ∷ ys) count each =
     let next : n + 1 + k ≡ n + suc k = omega arith in
     ap (λ m. f (m, a)) next ∙ each (suc k) a b at_a at_b ∙ ap (λ m. g (m, b)) (sym next)) in
     λ j. first j ++ rest j
+same_texts f g n _ _ count each = absurd (omega (arith, count))
 
 -- what an operation is shown as
 text_in : Kernel → Option Operation → List ℕ
@@ -24,18 +23,13 @@ text_in kernel (Some p) = act_text kernel p.kind p.writes
 
 op_text_is : (kernel : Kernel) (nodes : List Node) (ops : List Op) (i : ℕ) → op_text kernel (slice_get ops i) ≡ text_in kernel (slice_get (operations_in nodes ops) i)
 unfolding text_in
-op_text_is kernel nodes [] i = refl
-op_text_is kernel nodes (op ∷ ops) zero = refl
 op_text_is kernel nodes (op ∷ ops) (suc i) = op_text_is kernel nodes ops i
+op_text_is kernel nodes _ _ = refl
 
 module _ (kernel : Kernel) (nodes others : List Node) (ops other_ops : List Op) (same : operations_in nodes ops ≡ operations_in others other_ops) where
   same_what : (kind : StepKind) → what_text kernel ops kind ≡ what_text kernel other_ops kind
   same_what (Do op) = op_text_is kernel nodes ops op.0 ∙ ap (λ (os : List Operation). text_in kernel (slice_get os op.0)) same ∙ sym (op_text_is kernel others other_ops op.0)
-  same_what (Send link) = refl
-  same_what (Receive link) = refl
-  same_what (Report link) = refl
-  same_what (Collect link) = refl
-  same_what Commit = refl
+  same_what _ = refl
 
   same_step : (index : ℕ) (a b : Step) → a.kind ≡ b.kind → a.pos ≡ b.pos → step_text kernel ops (index, a) ≡ step_text kernel other_ops (index, b)
   same_step index a b kind position =

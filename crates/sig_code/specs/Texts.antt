@@ -1,7 +1,7 @@
 -- The text of a plan's code: for each actor a line with its number, and then a line for each step with the step's index, its
 -- position and what it does.
 use Rattle.std.specs.Prelude.{◌≡◌, ◌++◌}
-use Rattle.sig_code.specs.Prelude.{ℕ, List, [], codes, slice_get, Option, None, Some, decimal, enumerate_from, flat_map, SigId, Signal, Equation, Form, Fun, Delay, When, WhenConst, Default, Sync, Event, Kernel, CodeView, IsAccepted, PlanView, Step, StepKind, Do, Send, Receive, Report, Collect, Commit, Op, OpKind, Read, Compute, Left, Right, DelayRead, Store}
+use Rattle.sig_code.specs.Prelude.{ℕ, List, [], codes, slice_get, Option, None, Some, decimal, enumerate_from, flat_map, SigId, Signal, Equation, Form, Delay, Kernel, CodeView, IsAccepted, PlanView, Step, StepKind, Do, Send, Receive, Report, Collect, Commit, Op, OpKind, Read, Compute, Left, Right, DelayRead, Store}
 
 abbrev pub name_of : Option Signal → List ℕ
 name_of None = []
@@ -14,12 +14,7 @@ name_at signals (Some x) = name_of (slice_get signals x.0)
 -- the signal that a delay defines
 abbrev pub delayed_by : Form → Option SigId
 delayed_by (Delay y x initial) = Some y
-delayed_by (Fun y op operands) = None
-delayed_by (When y x b) = None
-delayed_by (WhenConst y constant b) = None
-delayed_by (Default y u v) = None
-delayed_by (Sync x y) = None
-delayed_by (Event y x) = None
+delayed_by _ = None
 
 abbrev pub delayed_in : Option Equation → Option SigId
 delayed_in None = None

@@ -1,5 +1,5 @@
 -- Where a store holds the guards of operations, each actor has a code.
-use Rattle.sig_deciding_laws.proofs.Common.{◌≡◌, ◌<◌, ◌+◌, ℕ, zero, suc, Bool, true, List, [], ◌∷◌, length, refl, sym, ap, ◌∙◌, subst, arith, Contains, Option, Some, slice_get, slice_index_or, if◌then◌else◌, Choice, Constant, Diagram, value_at, Implies, IsRefOf, diagram, test, Node, Ref, diagram-true, AreCodes, AreSlots, CodeView, ImpliesSlot, Instruction, IsCode, IsLastBelow, IsStepOf, always, instructions_of, unguarded, IsFor, collects, commits, does, receives, reports, sends, Operation, PartsView, Slot, Step, Commit, instruction_for, value_there, contains_head, contains_later, slice_get-get_or, slice_get_within, map_dec, dec_both, dec_not, dec_number, dec_truth}
+use Rattle.sig_deciding_laws.proofs.Common.{◌≡◌, ◌<◌, ◌+◌, ℕ, zero, suc, Bool, true, List, [], ◌∷◌, length, refl, sym, ap, ◌∙◌, subst, arith, Contains, Option, Some, slice_get, slice_index_or, if◌then◌else◌, Choice, Constant, Diagram, value_at, Implies, IsRefOf, diagram, test, Node, Ref, diagram-true, AreCodes, AreSlots, CodeView, ImpliesSlot, Instruction, IsCode, IsLastBelow, IsStepOf, always, instructions_of, unguarded, IsFor, does, receives, sends, Operation, PartsView, Slot, Step, Commit, instruction_for, value_there, contains_head, contains_later, slice_get-get_or, slice_get_within, map_dec, dec_both, dec_not, dec_number, dec_truth}
 use Rattle.sig_deciding_laws.proofs.ClockFunctionsOfKernel.{Sees}
 use Rattle.sig_deciding_laws.proofs.FirstNumbers.{AreNumbered, numbered_exist}
 use Rattle.sig_deciding_laws.proofs.Precedence.{dec_some_proposal}
@@ -170,9 +170,7 @@ module _ (nodes : List Node) (operations : List Operation) (order : List ℕ) (p
   guard_held actor _ (does j number p stands own) = held number p stands.is
   guard_held actor _ (sends j number link p stands own from) = held number p stands.is
   guard_held actor _ (receives j number link p stands other from to) = held number p stands.is
-  guard_held actor _ (reports link info other at none own) = true_ref
-  guard_held actor _ (collects link info own at none) = true_ref
-  guard_held actor _ (commits own) = true_ref
+  guard_held actor _ _ = true_ref
 
   code_exists : (actor : ℕ) → (code : CodeView) × IsCode nodes operations order parts actor code
   code_exists actor =

@@ -45,12 +45,7 @@ module _ (n : ℕ) (kernel : Kernel) (presence : Presence) (sees : (x : SigId) �
 
   stores_sound : (number : EqId) (form : Form) → All (IsSound n) (stores_of kernel.signals presence number form)
   stores_sound number (Delay y x initial) = only (IsSound n) _ (store_sound number y x)
-  stores_sound number (Fun y op operands) = All-nil (IsSound n)
-  stores_sound number (When y x b) = All-nil (IsSound n)
-  stores_sound number (WhenConst y constant b) = All-nil (IsSound n)
-  stores_sound number (Default y u v) = All-nil (IsSound n)
-  stores_sound number (Sync x y) = All-nil (IsSound n)
-  stores_sound number (Event y x) = All-nil (IsSound n)
+  stores_sound number _ = All-nil (IsSound n)
 
   operations_sound : All (IsSound n) (operations_of kernel presence)
   operations_sound =

@@ -1,5 +1,5 @@
 -- Which operations come before which is decided.
-use Rattle.sig_deciding_laws.proofs.Common.{◌≡◌, ◌≢◌, inl, inr, ℕ, zero, suc, Bool, true, false, List, [], ◌∷◌, length, refl, sym, ap, ◌∙◌, subst, arith, Contains, Some, slice_get, cases_eq, EqId, SigId, Depends, truth_of, with_truth, Guard, Operation, ComesBefore, Decides, DoneTogether, Feeds, Keeps, Needs, OpKind, Compute, DelayRead, Left, Read, Right, Store, slice_get_within, map_dec, dec_both, dec_contains, dec_either, dec_not, dec_option, dec_some, dec_truth, all_truths, searched_below, searched_lists}
+use Rattle.sig_deciding_laws.proofs.Common.{◌≡◌, ◌≢◌, inl, inr, ℕ, zero, suc, Bool, true, false, List, [], ◌∷◌, length, refl, sym, ap, ◌∙◌, subst, arith, Contains, Some, slice_get, cases_eq, EqId, SigId, Depends, truth_of, with_truth, Guard, Operation, ComesBefore, Decides, DoneTogether, Feeds, Keeps, Needs, OpKind, DelayRead, Store, slice_get_within, map_dec, dec_both, dec_contains, dec_either, dec_not, dec_option, dec_some, dec_truth, all_truths, searched_below, searched_lists, truth_of-with_same}
 use Rattle.sig_deciding_laws.proofs.DecidedStatements.{dec_equation, dec_signal}
 use Rattle.sig_deciding_laws.proofs.ClockFunctionsOfKernel.{AgreeBelow, IsSound, Sees}
 
@@ -28,27 +28,16 @@ dec_some_proposal n P decide same =
     map_dec (λ found. (found.0, found.2)) (λ found. (cut n found.0, cut_length n found.0, same found.0 (cut n found.0) (cut_agrees n found.0) found.1))
     (searched_lists all_truths n P (λ p _. decide p))
 
-own_truth : (truths : List Bool) (v : ℕ) (b : Bool) → truth_of (with_truth truths v b) v ≡ b
-unfolding with_truth
-own_truth [] zero b = refl
-own_truth [] (suc v) b = own_truth [] v b
-own_truth (t ∷ truths) zero b = refl
-own_truth (t ∷ truths) (suc v) b = own_truth truths v b
-
 other_truth : (truths : List Bool) (v : ℕ) (b : Bool) (u : ℕ) → (u ≡ v → ⊥) → truth_of (with_truth truths v b) u ≡ truth_of truths u
 unfolding with_truth
-other_truth [] zero b zero apart = absurd (apart refl)
-other_truth [] zero b (suc u) apart = refl
-other_truth [] (suc v) b zero apart = refl
 other_truth [] (suc v) b (suc u) apart = other_truth [] v b u (λ e. apart (ap suc e))
-other_truth (t ∷ truths) zero b zero apart = absurd (apart refl)
-other_truth (t ∷ truths) zero b (suc u) apart = refl
-other_truth (t ∷ truths) (suc v) b zero apart = refl
 other_truth (t ∷ truths) (suc v) b (suc u) apart = other_truth truths v b u (λ e. apart (ap suc e))
+other_truth _ zero b zero apart = absurd (apart refl)
+other_truth _ _ b _ apart = refl
 
 with_agrees : (n v : ℕ) (b : Bool) (p q : List Bool) → AgreeBelow n p q → AgreeBelow n (with_truth p v b) (with_truth q v b)
 with_agrees n v b p q agree u less = elim (cases_eq u v) [
-  | inl same ↦ subst (λ k. truth_of (with_truth p v b) k ≡ truth_of (with_truth q v b) k) (sym same) (own_truth p v b ∙ sym (own_truth q v b))
+  | inl same ↦ subst (λ k. truth_of (with_truth p v b) k ≡ truth_of (with_truth q v b) k) (sym same) (truth_of-with_same p v b ∙ sym (truth_of-with_same q v b))
   | inr apart ↦ other_truth p v b u apart ∙ agree u less ∙ sym (other_truth q v b u apart)
 ]
 
@@ -63,20 +52,12 @@ dec_depends n f sees v =
 -- ---- operations
 
 is_delay_read : (kind : OpKind) → Dec (kind ≡ DelayRead)
-is_delay_read (Read x) = no (λ e. cc)
-is_delay_read Compute = no (λ e. cc)
-is_delay_read Left = no (λ e. cc)
-is_delay_read Right = no (λ e. cc)
 is_delay_read DelayRead = yes refl
-is_delay_read (Store d) = no (λ e. cc)
+is_delay_read _ = no (λ e. cc)
 
 is_store : (kind : OpKind) (delay : EqId) → Dec (kind ≡ Store delay)
-is_store (Read x) delay = no (λ e. cc)
-is_store Compute delay = no (λ e. cc)
-is_store Left delay = no (λ e. cc)
-is_store Right delay = no (λ e. cc)
-is_store DelayRead delay = no (λ e. cc)
 is_store (Store d) delay = map_dec (ap Store) (λ e. cc) (dec_equation d delay)
+is_store _ delay = no (λ e. cc)
 
 dec_together : (n : ℕ) (p q : Operation) → Sees n p.guard → Sees n q.guard → Dec (DoneTogether p q)
 dec_together n p q sees_p sees_q =

@@ -5,11 +5,10 @@ use Rattle.sig_deciding_laws.proofs.Common.{◌≡◌, ◌<◌, ◌≤◌, ℕ, 
 
 statuses_count : (signals : List Signal) (reaction : Reaction) → are_statuses signals reaction ≡ true → length reaction ≡ length signals
 statuses_count [] [] are = refl
-statuses_count [] (status ∷ reaction) are = absurd (false≢true are)
-statuses_count (signal ∷ signals) [] are = absurd (false≢true are)
 statuses_count (signal ∷ signals) (status ∷ reaction) are =
     let rest = statuses_count signals reaction (and_parts (is_status_of signal.kind status) (are_statuses signals reaction) are).1 in
     omega (arith, rest)
+statuses_count _ _ are = absurd (false≢true are)
 
 pub reaction_count : (kernel : Kernel) (reaction : Reaction) → IsReaction kernel reaction → length reaction ≡ length kernel.signals
 reaction_count kernel reaction is = statuses_count kernel.signals reaction is.kinds

@@ -34,3 +34,4 @@ pub use Rattle.sig_doing_laws.specs.Commits.{IsCommitted}
 pub use Rattle.sig_doing_laws.specs.Doing.{AreAlike, IsAmid, instant_behind, stepped}
 pub use Rattle.sig_doing_laws.specs.Places.{IsDone, IsWrittenBefore, StandsAt, StandsBefore}
 pub use Rattle.sig_doing_laws.proofs.CompiledLists.{compiled_operations, compiled_order}
+pub use Rattle.sig_plan.proofs.Lists.{signal_same}

@@ -1,8 +1,5 @@
 -- A signal is defined once: by one equation, and where that is a delay, it is written by the delay's read alone.
-use Rattle.sig_doing_laws.proofs.Common.{◌≡◌, ◌<◌, ◌≤◌, ◌⊎◌, inl, inr, ℕ, zero, suc, ℤ, Bool, true, false, cond, List, [], ◌∷◌, length, refl, ap, sym, subst, ◌∙◌, arith, Contains, All, Option, None, Some, slice_get, ◌==◌, count_by, eq-eqb, eqb-true, All-cons, All-contains, All-nil, EqId, SigId, signal_id, target_of, IsValid, defines, form_within, is_target, target_within, Equation, Form, Fun, Delay, When, WhenConst, Default, Sync, Event, Kernel, at_most_or, form_for, form_in, has_form, initial_by, initial_in, Operation, Presence, operations_of, signals_of, store_of, stores_of, without, writes_of, writing, Writes, Compute, DelayRead, Left, Right, counted, fold_tally, one_place, tally, each_operation, only, target_below, got}
-
-pub same_signal : (x y : SigId) → x.0 ≡ y.0 → x ≡ y
-same_signal x y e = λ j. record { 0 = e j }
+use Rattle.sig_doing_laws.proofs.Common.{◌≡◌, ◌<◌, ◌≤◌, ◌⊎◌, inl, inr, ℕ, zero, suc, ℤ, Bool, true, false, cond, List, [], ◌∷◌, length, refl, ap, sym, subst, ◌∙◌, arith, Contains, All, Option, None, Some, slice_get, ◌==◌, count_by, eq-eqb, eqb-true, All-cons, All-contains, All-nil, EqId, SigId, signal_id, target_of, IsValid, defines, form_within, is_target, target_within, Equation, Form, Fun, Delay, When, WhenConst, Default, Sync, Event, Kernel, at_most_or, form_for, form_in, has_form, initial_by, initial_in, Operation, Presence, operations_of, signals_of, store_of, stores_of, without, writes_of, writing, Writes, Compute, DelayRead, Left, Right, counted, fold_tally, one_place, tally, each_operation, only, target_below, got, signal_same}
 
 pub same_equation : (d e : EqId) → d.0 ≡ e.0 → d ≡ e
 same_equation d e same = λ j. record { 0 = same j }
@@ -27,18 +24,13 @@ initial_is (p ∷ equations) (suc k) q y x initial at form one =
     passed p.form refl ∙ initial_is equations k q y x initial at form (λ i d at_i target. let same = one (suc i) d at_i target in omega (arith, same)) where
       other : (z u : SigId) (i : ℤ) → p.form ≡ Delay z u i → (b : Bool) → (z.0 == y.0) ≡ b → cond b i (initial_in equations y.0) ≡ initial_in equations y.0
       other z u i is true same =
-          let first : 0 ≡ suc k = one 0 p refl (ap target_of is ∙ ap Some (same_signal z y (eqb-true z.0 y.0 same))) in
+          let first : 0 ≡ suc k = one 0 p refl (ap target_of is ∙ ap Some (signal_same z y (eqb-true z.0 y.0 same))) in
           absurd (omega (arith, first))
       other z u i is false same = refl
 
       passed : (shape : Form) → p.form ≡ shape → initial_by y.0 shape (initial_in equations y.0) ≡ initial_in equations y.0
       passed (Delay z u i) is = other z u i is (z.0 == y.0) refl
-      passed (Fun z op operands) is = refl
-      passed (When z u b) is = refl
-      passed (WhenConst z k b) is = refl
-      passed (Default z u v) is = refl
-      passed (Sync z u) is = refl
-      passed (Event z u) is = refl
+      passed _ is = refl
 
 module _ (kernel : Kernel) (valid : IsValid kernel) where
   defining : (y : SigId) (form : Form) → target_of form ≡ Some y → is_target y.0 (target_of form) ≡ true
@@ -100,12 +92,7 @@ module _ (kernel : Kernel) (valid : IsValid kernel) where
 
     stores_memory : (number : EqId) (form : Form) → HasForm number form → All ReadsMemory (stores_of kernel.signals presence number form)
     stores_memory number (Delay z u i) has = only ReadsMemory (store_of kernel.signals presence number z u) (λ writes. absurd (let f : None ≡ Some y = writes in cc))
-    stores_memory number (Fun z op operands) has = All-nil ReadsMemory
-    stores_memory number (When z u b) has = All-nil ReadsMemory
-    stores_memory number (WhenConst z constant b) has = All-nil ReadsMemory
-    stores_memory number (Default z u v) has = All-nil ReadsMemory
-    stores_memory number (Sync u z) has = All-nil ReadsMemory
-    stores_memory number (Event z u) has = All-nil ReadsMemory
+    stores_memory number _ has = All-nil ReadsMemory
 
     pub one_memory : (p : Operation) → Contains (operations_of kernel presence) p → ReadsMemory p
     one_memory p among = All-contains ReadsMemory (operations_of kernel presence) p

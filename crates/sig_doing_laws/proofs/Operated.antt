@@ -1,8 +1,8 @@
 -- An operation that is done and comes to a value meets no fault, and leaves an actor amid the instant.
-use Rattle.sig_doing_laws.proofs.Common.{compiled_operations, compiled_order, ◌≡◌, ◌<◌, ◌≤◌, ◌+◌, ◌++◌, ◌⊎◌, inl, inr, ℕ, ℤ, Bool, true, false, cond, List, [], ◌∷◌, length, map, get_or, refl, ap, sym, subst, ◌∙◌, arith, Contains, Option, None, Some, slice_get, slice_index, option_to_list, ◌==◌, eq-eqb, eqb-true, length-append, Function, Instant, Seen, Trace, flow_of, seen_at, EqId, SigId, abstraction_of, test, IsAmid, stepped, IsDone, IsWrittenBefore, StandsAt, StandsBefore, function_of, remembered, target_of, AreFlowsFor, Equation, Delay, IsAt, IsOutcome, compiled, Compiled, fitting, flow_more, next_in, is_outcome, Fitting, stored, form_in, have_map, same_operands, Actor, truths_of, with_at, with_signal, Computes, HasFault, Meets, Faults, Gives, bounded, computed, computed_at, computed_by, computed_for, defined_by, first_in, next_of, operand_in, operated, outcome, outcome_by, remembers, taken_by, divides_by_zero, has_64_bits, result_of, Operation, operation_in, Keeps, Precedes, IsAccepted, PlanView, Cause, Exhausted, Limit, Overflow, ZeroDivisor, Op, OpKind, Compute, DelayRead, Left, Read, Right, Store, written_by_one, kept_order, stands_once, cases_eq, got}
+use Rattle.sig_doing_laws.proofs.Common.{compiled_operations, compiled_order, ◌≡◌, ◌<◌, ◌≤◌, ◌+◌, ◌++◌, ◌⊎◌, inl, inr, ℕ, ℤ, Bool, true, false, cond, List, [], ◌∷◌, length, map, get_or, refl, ap, sym, subst, ◌∙◌, arith, Contains, Option, None, Some, slice_get, slice_index, option_to_list, ◌==◌, eq-eqb, eqb-true, length-append, Function, Instant, Seen, Trace, flow_of, seen_at, EqId, SigId, abstraction_of, test, IsAmid, stepped, IsDone, IsWrittenBefore, StandsAt, StandsBefore, function_of, remembered, target_of, AreFlowsFor, Equation, Delay, IsAt, IsOutcome, compiled, Compiled, fitting, flow_more, next_in, is_outcome, Fitting, stored, form_in, have_map, same_operands, Actor, truths_of, with_at, with_signal, Computes, HasFault, Meets, Faults, Gives, bounded, computed, computed_at, computed_by, computed_for, defined_by, first_in, next_of, operand_in, operated, outcome, outcome_by, remembers, taken_by, divides_by_zero, has_64_bits, result_of, Operation, operation_in, Keeps, Precedes, IsAccepted, PlanView, Cause, Exhausted, Limit, Overflow, ZeroDivisor, Op, OpKind, Compute, DelayRead, Read, Store, written_by_one, kept_order, stands_once, cases_eq, got, signal_same}
 use Rattle.sig_doing_laws.proofs.Amid.{guard_known, here, place_within, reads_known, sound_next}
 use Rattle.sig_doing_laws.proofs.Committed.{committed_clean}
-use Rattle.sig_doing_laws.proofs.DefinedOnce.{defined_once, one_memory, same_equation, same_signal}
+use Rattle.sig_doing_laws.proofs.DefinedOnce.{defined_once, one_memory, same_equation}
 use Rattle.sig_doing_laws.proofs.ReferenceInstant.{among, compute_is, goes_on, is_next, keeps, read_is, remembered_present, speaks}
 use Rattle.sig_doing_laws.proofs.Places.{at_place, places, stands_before_or_here, stands_here, stands_later, written_before_or_here, written_here, written_later}
 
@@ -21,7 +21,7 @@ at_other {A} y v g x apart = by (x == y.0) refl where
 signal_cases : {A : Type 0} (P : A → Type 0) (o : Option SigId) (v : A) (g : ℕ → A) (x : SigId) → (o ≡ Some x → P v) → ((o ≡ Some x → ⊥) → P (g x.0)) → P (with_signal o v g x.0)
 signal_cases {A} P None v g x same other = other (λ e. let f : None ≡ Some x = e in cc)
 signal_cases {A} P (Some z) v g x same other = elim (cases_eq z.0 x.0) [
-  | inl e ↦ subst P (sym (at_same z v g x.0 e)) (same (ap Some (same_signal z x e)))
+  | inl e ↦ subst P (sym (at_same z v g x.0 e)) (same (ap Some (signal_same z x e)))
   | inr apart ↦ subst P (sym (at_other z v g x.0 apart)) (other (λ e. apart (let f : Some z ≡ Some x = e in let one : z ≡ x = cc in ap (λ (y : SigId). y.0) one)))
 ]
 
@@ -159,11 +159,7 @@ module _ (plan : PlanView) (accepted : IsAccepted plan) (flows : List (List ℤ)
 
     remembers_by : (kind : OpKind) (y : SigId) → remembers plan.kernel kind ≡ Some y → (d : EqId) × (kind ≡ Store d) × (defined_by plan.kernel d ≡ Some y)
     remembers_by (Store d) y is = (d, refl, is)
-    remembers_by (Read x) y is = absurd (let g : None ≡ Some y = is in cc)
-    remembers_by Compute y is = absurd (let g : None ≡ Some y = is in cc)
-    remembers_by Left y is = absurd (let g : None ≡ Some y = is in cc)
-    remembers_by Right y is = absurd (let g : None ≡ Some y = is in cc)
-    remembers_by DelayRead y is = absurd (let g : None ≡ Some y = is in cc)
+    remembers_by _ y is = absurd (let g : None ≡ Some y = is in cc)
 
     defining_equation : (d : EqId) (y : SigId) → defined_by plan.kernel d ≡ Some y → (p : Equation) × (slice_get plan.kernel.equations d.0 ≡ Some p) × (target_of p.form ≡ Some y)
     defining_equation d y is = by (slice_get plan.kernel.equations d.0) refl where
@@ -202,15 +198,12 @@ module _ (plan : PlanView) (accepted : IsAccepted plan) (flows : List (List ℤ)
     taken_cases : (P : ℕ → Type 0) (kind : OpKind) (x : SigId) → (kind ≡ Read x → P (actor.taken x.0 + 1)) → ((kind ≡ Read x → ⊥) → P (actor.taken x.0)) → P (taken_by kind actor.taken x.0)
     taken_cases P (Read z) x same other = elim (cases_eq z.0 x.0) [
       | inl e ↦
-          let one : z ≡ x = same_signal z x e in
+          let one : z ≡ x = signal_same z x e in
           subst P (sym (at_same z (actor.taken z.0 + 1) actor.taken x.0 e ∙ ap (λ (y : SigId). actor.taken y.0 + 1) one)) (same (ap Read one))
       | inr apart ↦ subst P (sym (at_other z (actor.taken z.0 + 1) actor.taken x.0 apart)) (other (λ e. apart (let g : Read z ≡ Read x = e in let one : z ≡ x = cc in ap (λ (y : SigId). y.0) one)))
     ]
     taken_cases P (Store e) x same other = other (λ is. let g : Store e ≡ Read x = is in cc)
-    taken_cases P Compute x same other = other (λ is. let g : Compute ≡ Read x = is in cc)
-    taken_cases P Left x same other = other (λ is. let g : Left ≡ Read x = is in cc)
-    taken_cases P Right x same other = other (λ is. let g : Right ≡ Read x = is in cc)
-    taken_cases P DelayRead x same other = other (λ is. let g : DelayRead ≡ Read x = is in cc)
+    taken_cases P kind x same other = other (λ is. let g : kind ≡ Read x = is in cc)
 
     -- ---- behind the operation
 

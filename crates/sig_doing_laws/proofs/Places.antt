@@ -1,5 +1,5 @@
 -- The operations at the places of a plan's order.
-use Rattle.sig_doing_laws.proofs.Common.{compiled_operations, compiled_order, ◌≡◌, ◌<◌, ◌≤◌, ◌+◌, ◌⊎◌, inl, inr, ℕ, zero, suc, List, [], ◌∷◌, length, refl, ap, sym, subst, ◌∙◌, arith, Some, slice_get, slice_index, length-map, Instant, EqId, OpId, SigId, Node, IsDone, IsWrittenBefore, StandsAt, StandsBefore, Decided, at_most_or, Operation, operation_in, operations_in, IsAccepted, PlanView, numbers_of, Op, OpKind, Compute, DelayRead, Left, Read, Right, Store, slice_get-get_or, got, some_at, cases_eq}
+use Rattle.sig_doing_laws.proofs.Common.{compiled_operations, compiled_order, ◌≡◌, ◌<◌, ◌≤◌, ◌+◌, ◌⊎◌, inl, inr, ℕ, zero, suc, List, [], ◌∷◌, length, refl, ap, sym, subst, ◌∙◌, arith, Some, slice_get, slice_index, length-map, Instant, EqId, OpId, SigId, Node, IsDone, IsWrittenBefore, StandsAt, StandsBefore, Decided, at_most_or, Operation, operation_in, operations_in, IsAccepted, PlanView, numbers_of, Op, OpKind, Read, Store, slice_get-get_or, got, some_at, cases_eq}
 
 -- ---- operations, and their numbers
 
@@ -90,10 +90,7 @@ decide_store e (Store d) = elim (cases_eq d.0 e.0) [
   | inr apart ↦ inr (λ is. apart (let f : Store d ≡ Store e = is in let one : d ≡ e = cc in ap (λ (n : EqId). n.0) one))
 ]
 decide_store e (Read x) = inr (λ is. let f : Read x ≡ Store e = is in cc)
-decide_store e Compute = inr (λ is. let f : Compute ≡ Store e = is in cc)
-decide_store e Left = inr (λ is. let f : Left ≡ Store e = is in cc)
-decide_store e Right = inr (λ is. let f : Right ≡ Store e = is in cc)
-decide_store e DelayRead = inr (λ is. let f : DelayRead ≡ Store e = is in cc)
+decide_store e kind = inr (λ is. let f : kind ≡ Store e = is in cc)
 
 pub decide_read : (x : SigId) (kind : OpKind) → Decided (kind ≡ Read x)
 decide_read x (Read z) = elim (cases_eq z.0 x.0) [
@@ -101,10 +98,7 @@ decide_read x (Read z) = elim (cases_eq z.0 x.0) [
   | inr apart ↦ inr (λ is. apart (let f : Read z ≡ Read x = is in let one : z ≡ x = cc in ap (λ (n : SigId). n.0) one))
 ]
 decide_read x (Store e) = inr (λ is. let f : Store e ≡ Read x = is in cc)
-decide_read x Compute = inr (λ is. let f : Compute ≡ Read x = is in cc)
-decide_read x Left = inr (λ is. let f : Left ≡ Read x = is in cc)
-decide_read x Right = inr (λ is. let f : Right ≡ Read x = is in cc)
-decide_read x DelayRead = inr (λ is. let f : DelayRead ≡ Read x = is in cc)
+decide_read x kind = inr (λ is. let f : kind ≡ Read x = is in cc)
 
 module _ (plan : PlanView) (accepted : IsAccepted plan) where
   -- each place has an operation

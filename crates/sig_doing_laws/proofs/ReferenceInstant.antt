@@ -46,12 +46,7 @@ module _ (kernel : Kernel) (presence : Presence) where
       let g : Some (Delay y u i) ≡ Some (Delay z x initial) = sym has ∙ ap (λ (n : EqId). form_for kernel (Some n)) one ∙ is in
       let same : u ≡ x = cc in
       ap presence same)
-  stores_storing number (Fun y op operands) has = All-nil IsStoring
-  stores_storing number (When y x b) has = All-nil IsStoring
-  stores_storing number (WhenConst y constant b) has = All-nil IsStoring
-  stores_storing number (Default y u v) has = All-nil IsStoring
-  stores_storing number (Sync x y) has = All-nil IsStoring
-  stores_storing number (Event y x) has = All-nil IsStoring
+  stores_storing number _ has = All-nil IsStoring
 
   pub one_storing : (p : Operation) → Contains (operations_of kernel presence) p → IsStoring p
   one_storing p among = All-contains IsStoring (operations_of kernel presence) p

@@ -1,5 +1,5 @@
 -- Functions and their operands, both ways.
-use Rattle.sig_file.proofs.Common.{◌≡◌, ℕ, suc, ◌<◌, ◌≤◌, ◌^◌, ◌⊎◌, inl, inr, Bool, true, false, List, [], ◌∷◌, ◌++◌, length, Option, None, Some, refl, sym, ap, subst, ◌∙◌, arith, bytes_eq, bytes_eq-Decides, list_any, ltb, AllByRecursion, flat_map, ℤ, w64, ◌||◌, Kind, FunOp, Id, Neg, Not, And, Or, Xor, Eq, Ne, Lt, Le, Gt, Ge, Add, Sub, Mul, Div, Mod, Operand, Sig, Const, pos, Sort, Row, SIGNALS, function_rows, is_kind, is_signal, function_number, long_bytes, number_bytes, operand_bytes, function_at, functions, may_follow, operand_at, operand_from, operand_tags, signal_id, Each, IsFunction, are_operands, begins_row, kind_at, operand_count, operand_is, operands_begin, OperandTag, ImageOpKind, ImageSignal, and_from, and_parts, or_left, or_right}
+use Rattle.sig_file.proofs.Common.{◌≡◌, ℕ, suc, ◌<◌, ◌≤◌, ◌^◌, ◌⊎◌, inl, inr, Bool, true, false, List, [], ◌∷◌, ◌++◌, length, Option, None, Some, refl, sym, ap, subst, ◌∙◌, arith, bytes_eq, bytes_eq-Decides, list_any, ltb, AllByRecursion, flat_map, ℤ, w64, ◌||◌, Kind, FunOp, Id, Neg, Not, Operand, Sig, Const, pos, Sort, Row, SIGNALS, function_rows, is_kind, is_signal, function_number, long_bytes, number_bytes, operand_bytes, function_at, functions, may_follow, operand_at, operand_from, operand_tags, signal_id, Each, IsFunction, are_operands, begins_row, kind_at, operand_count, operand_is, operands_begin, OperandTag, ImageOpKind, ImageSignal, and_from, and_parts, or_left, or_right}
 use Rattle.sig_file.specs.declared.choice.OperandTag.TheVariants as operand
 use Rattle.sig_file.specs.declared.images.ImageOpKind.TheVariants as does
 use Rattle.sig_file.proofs.Choices.{functions_numbered, functions_there, operand_number, operand_tags_numbered, operand_tags_there}
@@ -164,20 +164,7 @@ counted : (op : FunOp) → (operand_count op ≡ 1) ⊎ (operand_count op ≡ 2)
 counted Id = inl refl
 counted Neg = inl refl
 counted Not = inl refl
-counted And = inr refl
-counted Or = inr refl
-counted Xor = inr refl
-counted Eq = inr refl
-counted Ne = inr refl
-counted Lt = inr refl
-counted Le = inr refl
-counted Gt = inr refl
-counted Ge = inr refl
-counted Add = inr refl
-counted Sub = inr refl
-counted Mul = inr refl
-counted Div = inr refl
-counted Mod = inr refl
+counted other = inr refl
 
 module _ (signals : List ImageSignal) (op : FunOp) (kind : Option Kind) where
   abbrev AreEach : List Operand → Type 0
@@ -202,20 +189,12 @@ module _ (signals : List ImageSignal) (op : FunOp) (kind : Option Kind) where
 -- ---- functions
 
 abbrev pub function_in : ImageOpKind → FunOp
-function_in (does.Read x) = Id
 function_in (does.Fun y op operands) = op
-function_in (does.Copy y x) = Id
-function_in (does.Const y value) = Id
-function_in (does.DelayRead y m) = Id
-function_in (does.Store m x) = Id
+function_in other = Id
 
 abbrev pub operands_in : ImageOpKind → List Operand
-operands_in (does.Read x) = []
 operands_in (does.Fun y op operands) = operands
-operands_in (does.Copy y x) = []
-operands_in (does.Const y value) = []
-operands_in (does.DelayRead y m) = []
-operands_in (does.Store m x) = []
+operands_in other = []
 
 -- the fields of a function behind its target
 abbrev pub function_bytes : ImageOpKind → List ℕ

@@ -80,12 +80,7 @@ module _ (n : ℕ) where
 
   one_memory : (signals : List Signal) (form : Form) → form_within n form ≡ true → (rest : List ImageMemory) → length (cons_option (memory_of signals form) rest) ≤ one_of (is_under n (target_of form)) + length rest
   one_memory signals (Delay y x init) within rest = omega (arith, defined (Delay y x init) y within refl refl)
-  one_memory signals (Fun y op operands) within rest = omega arith
-  one_memory signals (When y x b) within rest = omega arith
-  one_memory signals (WhenConst y constant b) within rest = omega arith
-  one_memory signals (Default y u v) within rest = omega arith
-  one_memory signals (Sync x y) within rest = omega arith
-  one_memory signals (EventOf y x) within rest = omega arith
+  one_memory signals other within rest = omega arith
 
   memories_under : (signals : List Signal) (equations : List Equation) → ((k : ℕ) (d : Equation) → slice_get equations k ≡ Some d → form_within n d.form ≡ true)
       → length (filter_map (λ (d : Equation). memory_of signals d.form) equations) ≤ under n equations
@@ -110,12 +105,7 @@ module _ (n : ℕ) where
   stores_short : (signals : List Signal) (presence : Presence) → IsShort (stores_of signals presence)
   unfolding IsShort
   stores_short signals presence number (Delay y x init) within = omega (arith, defined (Delay y x init) y within refl refl)
-  stores_short signals presence number (Fun y op operands) within = omega arith
-  stores_short signals presence number (When y x b) within = omega arith
-  stores_short signals presence number (WhenConst y constant b) within = omega arith
-  stores_short signals presence number (Default y u v) within = omega arith
-  stores_short signals presence number (Sync x y) within = omega arith
-  stores_short signals presence number (EventOf y x) within = omega arith
+  stores_short signals presence number other within = omega arith
 
   each_short : (make : EqId → Form → List Operation) → IsShort make → (m : ℕ) (equations : List Equation) → ((k : ℕ) (d : Equation) → slice_get equations k ≡ Some d → form_within n d.form ≡ true)
       → length (of_each make m equations) ≤ 2 * under n equations

@@ -1,5 +1,5 @@
 -- What the operation of an equation does in a plan's image fits the kinds of its signals.
-use Rattle.sig_file.proofs.Common.{◌≡◌, ℕ, suc, true, List, [], ◌∷◌, length, map, slice_get, Option, Some, None, refl, sym, ap, subst, ◌∙◌, list_any, inl, inr, AllByRecursion, ℤ, pos, Kind, Integer, Boolean, Event, SigId, Sort, AnInteger, Truth, AnEvent, Row, constant_is, function_rows, is_kind, is_signal, kind_fits, value_is, Operand, Sig, Const, FunOp, Id, Neg, Not, And, Or, Xor, Eq, Ne, Lt, Le, Gt, Ge, Add, Sub, Mul, Div, Mod, IfSome, unwrap_or, and_parts, Signal, defines_well, form_fits, handed_on_where, keeps_to, keeps_to_one, kind_of, merged, operands_are, operands_of, presence, target_fits, Form, Fun, Delay, When, WhenConst, Default, EventOf, OpKind, Compute, Left, Right, DelayRead, Store, IsFunction, MayDo, Scope, accepts, accepts_value, are_operands, begins_row, is_same, kind_at, memory_at, memory_in, operand_count, operand_is, operands_begin, sort_of, does_of, image_signal, memory_of, ImageMemory, ImageSignal, and_from, or_cases, or_left, or_right, two_parts}
+use Rattle.sig_file.proofs.Common.{◌≡◌, ℕ, suc, true, List, [], ◌∷◌, length, map, slice_get, Option, Some, None, refl, sym, ap, subst, ◌∙◌, list_any, inl, inr, AllByRecursion, ℤ, pos, Kind, Integer, Boolean, Event, SigId, Sort, AnInteger, Truth, AnEvent, Row, constant_is, function_rows, is_kind, is_signal, kind_fits, value_is, Operand, Sig, Const, FunOp, Id, Eq, Ne, IfSome, unwrap_or, and_parts, Signal, defines_well, form_fits, handed_on_where, keeps_to, keeps_to_one, kind_of, merged, operands_are, operands_of, presence, target_fits, Form, Fun, Delay, When, WhenConst, Default, EventOf, OpKind, Compute, Left, Right, DelayRead, Store, IsFunction, MayDo, Scope, accepts, accepts_value, are_operands, begins_row, is_same, kind_at, memory_at, memory_in, operand_count, operand_is, operands_begin, sort_of, does_of, image_signal, memory_of, ImageMemory, ImageSignal, and_from, or_cases, or_left, or_right, two_parts}
 use Rattle.sig_kernel.specs.Table as table
 use Rattle.sig_file.proofs.PlanMemories.{delay_kept}
 use Rattle.sig_file.proofs.PlanSignals.{kind_image}
@@ -19,22 +19,9 @@ HaveCount n rows = AllByRecursion (λ (r : Row). length r.operands ≡ n) rows
 rows_have : (op : FunOp) → HaveCount (operand_count op) (function_rows op)
 unfolding HaveCount
 rows_have Id = (refl, (refl, (refl, tt)))
-rows_have Neg = (refl, tt)
-rows_have Not = (refl, tt)
-rows_have And = (refl, tt)
-rows_have Or = (refl, tt)
-rows_have Xor = (refl, tt)
 rows_have Eq = (refl, (refl, tt))
 rows_have Ne = (refl, (refl, tt))
-rows_have Lt = (refl, tt)
-rows_have Le = (refl, tt)
-rows_have Gt = (refl, tt)
-rows_have Ge = (refl, tt)
-rows_have Add = (refl, tt)
-rows_have Sub = (refl, tt)
-rows_have Mul = (refl, tt)
-rows_have Div = (refl, tt)
-rows_have Mod = (refl, tt)
+rows_have other = (refl, tt)
 
 module _ (signals : List Signal) where
   count_is : (kind : Kind) (operands : List Operand) (n : ℕ) (rows : List Row) → HaveCount n rows → keeps_to_one signals kind operands rows ≡ true → length operands ≡ n
@@ -120,8 +107,7 @@ module _ (signals : List Signal) where
 
   itself : (kind : Kind) → is_kind kind kind ≡ true
   itself Integer = refl
-  itself Boolean = refl
-  itself Event = refl
+  itself other = refl
 
   same_by : (form : Form) (o : Option Kind) → target_fits signals o form ≡ true → is_same o (Some (unwrap_or o Integer)) ≡ true
   same_by form None fits = absurd cc

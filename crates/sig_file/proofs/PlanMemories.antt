@@ -1,5 +1,5 @@
 -- The memories of a plan's image: those of the delays.
-use Rattle.sig_file.proofs.Common.{◌≡◌, ℕ, zero, suc, ◌+◌, true, cond, List, [], ◌∷◌, ◌++◌, take, slice_get, Option, Some, None, refl, ap, ◌∙◌, arith, ℤ, Kind, Integer, Boolean, Event, SigId, AnInteger, Truth, Sig, Const, constant_is, kind_fits, value_is, filter_map, unwrap_or, cons_option, sum_by-cons, Signal, form_fits, keeps_to_one, kept, kind_of, target_fits, Equation, Form, Fun, Delay, When, WhenConst, Default, Sync, EventOf, Each, IsMemory, is_memory_kind, sort_of, is_delay, memory_number, memory_of, ImageMemory, two_parts}
+use Rattle.sig_file.proofs.Common.{◌≡◌, ℕ, zero, suc, ◌+◌, true, cond, List, [], ◌∷◌, ◌++◌, take, slice_get, Option, Some, None, refl, ap, ◌∙◌, arith, ℤ, Kind, Integer, Boolean, Event, SigId, AnInteger, Truth, Sig, Const, constant_is, kind_fits, value_is, filter_map, unwrap_or, cons_option, sum_by-cons, Signal, form_fits, keeps_to_one, kept, kind_of, target_fits, Equation, Form, Delay, Each, IsMemory, is_memory_kind, sort_of, is_delay, memory_number, memory_of, ImageMemory, two_parts}
 use Rattle.sig_kernel.specs.Table.{operand_is}
 
 -- a memory of this kind keeps this at first, and then what the signal has
@@ -29,12 +29,7 @@ AreMemories before memories = Each (λ (b : List ImageMemory). IsMemory) before 
 one_memory : (signals : List Signal) (form : Form) → form_fits signals form ≡ true → (rest : List ImageMemory) → ((b : List ImageMemory) → AreMemories b rest) → (before : List ImageMemory) → AreMemories before (cons_option (memory_of signals form) rest)
 unfolding AreMemories
 one_memory signals (Delay y x init) fits rest each before = (memory_right signals y x init fits, each (before ++ record { kind = unwrap_or (kind_of (slice_get signals y.0)) Integer; init = init } ∷ []))
-one_memory signals (Fun y op operands) fits rest each before = each before
-one_memory signals (When y x b) fits rest each before = each before
-one_memory signals (WhenConst y constant b) fits rest each before = each before
-one_memory signals (Default y u v) fits rest each before = each before
-one_memory signals (Sync x y) fits rest each before = each before
-one_memory signals (EventOf y x) fits rest each before = each before
+one_memory signals other fits rest each before = each before
 
 all_memories : (signals : List Signal) (equations : List Equation) → ((k : ℕ) (d : Equation) → slice_get equations k ≡ Some d → form_fits signals d.form ≡ true)
     → (before : List ImageMemory) → AreMemories before (filter_map (λ (d : Equation). memory_of signals d.form) equations)
@@ -52,12 +47,7 @@ memories_right signals equations fits = all_memories signals equations fits []
 
 passed : (signals : List Signal) (form : Form) (rest : List ImageMemory) (m : ℕ) → slice_get (cons_option (memory_of signals form) rest) (cond (is_delay form) 1 0 + m) ≡ slice_get rest m
 passed signals (Delay y x init) rest m = let n : 1 + m ≡ suc m = omega arith in ap (slice_get (cons_option (memory_of signals (Delay y x init)) rest)) n
-passed signals (Fun y op operands) rest m = let n : 0 + m ≡ m = omega arith in ap (slice_get rest) n
-passed signals (When y x b) rest m = let n : 0 + m ≡ m = omega arith in ap (slice_get rest) n
-passed signals (WhenConst y constant b) rest m = let n : 0 + m ≡ m = omega arith in ap (slice_get rest) n
-passed signals (Default y u v) rest m = let n : 0 + m ≡ m = omega arith in ap (slice_get rest) n
-passed signals (Sync x y) rest m = let n : 0 + m ≡ m = omega arith in ap (slice_get rest) n
-passed signals (EventOf y x) rest m = let n : 0 + m ≡ m = omega arith in ap (slice_get rest) n
+passed signals other rest m = let n : 0 + m ≡ m = omega arith in ap (slice_get rest) n
 
 -- the memory of a delay stands at its number
 pub memory_there : (signals : List Signal) (equations : List Equation) (n : ℕ) (d : Equation) (y x : SigId) (init : ℤ) → slice_get equations n ≡ Some d → d.form ≡ Delay y x init

@@ -1,5 +1,5 @@
 -- The operations and the nodes of a plan's image.
-use Rattle.sig_file.proofs.Common.{◌≡◌, ℕ, zero, suc, ◌+◌, ◌<◌, true, List, [], ◌∷◌, ◌++◌, length, map, slice_get, Option, Some, None, refl, sym, ap, subst, ◌∙◌, arith, append-nil, append_assoc, All, AllByRecursion, slice_get-map, option_map, list_any, length-append, diagram, is_signal, IfSome, filter_map, cons_option, All-cons, All-nil, get_or_from_slice_get, EqId, OpId, SigId, Span, Signal, Tests, proper, Depends-tests, IsProper, form_fits, operands_of, Equation, Form, Fun, Delay, When, WhenConst, Default, Sync, EventOf, Kernel, of_operation, Operation, Presence, operation_in, operations_in, operations_of, presence_in, stores_of, without, writes_of, writing, IsAccepted, PlanView, Op, OpKind, Read, Compute, Left, Right, DelayRead, Store, guard_alone, guard_held, each_operation, only, Each, IsNodeBehind, IsOperation, MayDo, Scope, scope_of, before, does_of, equation_at, equation_numbered, image_of, image_op, image_signal, made_of, memories_of, memory_number, memory_of, op_with, ordered, read_at, visited, HasPlace, HavePlaces, ImageMemory, ImageNode, ImageOp, ImageOpKind, slice_get_within, at_each}
+use Rattle.sig_file.proofs.Common.{◌≡◌, ℕ, zero, suc, ◌+◌, ◌<◌, true, List, [], ◌∷◌, ◌++◌, length, map, slice_get, Option, Some, None, refl, sym, ap, subst, ◌∙◌, arith, append-nil, append_assoc, All, AllByRecursion, slice_get-map, option_map, list_any, length-append, diagram, is_signal, IfSome, filter_map, cons_option, All-cons, All-nil, get_or_from_slice_get, EqId, OpId, SigId, Span, Signal, Tests, proper, Depends-tests, IsProper, form_fits, operands_of, Equation, Form, Delay, Default, Sync, Kernel, of_operation, Operation, Presence, operation_in, operations_in, operations_of, presence_in, stores_of, without, writes_of, writing, IsAccepted, PlanView, Op, OpKind, Read, Left, Right, guard_alone, guard_held, each_operation, only, Each, IsNodeBehind, IsOperation, MayDo, Scope, scope_of, before, does_of, equation_at, equation_numbered, image_of, image_op, image_signal, made_of, memories_of, memory_number, memory_of, op_with, ordered, read_at, visited, HasPlace, HavePlaces, ImageMemory, ImageNode, ImageOp, ImageOpKind, slice_get_within, at_each}
 use Rattle.sig_clock.specs.Conditions.{signal_id}
 use Rattle.sig_file.proofs.PlanFunctions.{does_right}
 use Rattle.sig_file.proofs.PlanMemories.{memory_there}
@@ -40,11 +40,7 @@ module _ (scope : Scope) (guard : ℕ) where
 
     op_right : (kind : OpKind) (eq : Option EqId) → ((x : SigId) → kind ≡ Read x → x.0 < scope.inputs) → IfSome (image_op kernel guard kind eq) (IsUnder scope guard)
     op_right (Read x) eq reads = read_right x (slice_get kernel.signals x.0) (reads x refl)
-    op_right Compute eq reads = numbered Compute eq
-    op_right Left eq reads = numbered Left eq
-    op_right Right eq reads = numbered Right eq
-    op_right DelayRead eq reads = numbered DelayRead eq
-    op_right (Store number) eq reads = numbered (Store number) eq
+    op_right other eq reads = numbered other eq
 
 -- ---- operations of a plan
 
@@ -60,25 +56,16 @@ ReadsInput kernel p = (x : SigId) → p.kind ≡ Read x → x.0 < kernel.inputs
 module _ (kernel : Kernel) (presence : Presence) where
   writes_read : (number : EqId) (form : Form) → Unit {0} → All (ReadsInput kernel) (writes_of kernel.signals presence number form)
   unfolding ReadsInput
-  writes_read number (Fun y op operands) u = only (ReadsInput kernel) _ (λ x e. absurd cc)
-  writes_read number (When y a b) u = only (ReadsInput kernel) _ (λ x e. absurd cc)
-  writes_read number (WhenConst y constant b) u = only (ReadsInput kernel) _ (λ x e. absurd cc)
   writes_read number (Default y a b) u =
       All-cons (ReadsInput kernel) (writing kernel.signals number Left (presence a) y (a ∷ [])) (writing kernel.signals number Right (without (presence b) (presence a)) y (b ∷ []) ∷ [])
       (λ x e. absurd cc) (only (ReadsInput kernel) _ (λ x e. absurd cc))
   writes_read number (Sync y a) u = All-nil (ReadsInput kernel)
-  writes_read number (EventOf y a) u = only (ReadsInput kernel) _ (λ x e. absurd cc)
-  writes_read number (Delay y a initial) u = only (ReadsInput kernel) _ (λ x e. absurd cc)
+  writes_read number other u = only (ReadsInput kernel) _ (λ x e. absurd cc)
 
   stores_read : (number : EqId) (form : Form) → Unit {0} → All (ReadsInput kernel) (stores_of kernel.signals presence number form)
   unfolding ReadsInput
   stores_read number (Delay y a initial) u = only (ReadsInput kernel) _ (λ x e. absurd cc)
-  stores_read number (Fun y op operands) u = All-nil (ReadsInput kernel)
-  stores_read number (When y a b) u = All-nil (ReadsInput kernel)
-  stores_read number (WhenConst y constant b) u = All-nil (ReadsInput kernel)
-  stores_read number (Default y a b) u = All-nil (ReadsInput kernel)
-  stores_read number (Sync y a) u = All-nil (ReadsInput kernel)
-  stores_read number (EventOf y a) u = All-nil (ReadsInput kernel)
+  stores_read number other u = All-nil (ReadsInput kernel)
 
   inputs_read : All (ReadsInput kernel) (operations_of kernel presence)
   unfolding ReadsInput

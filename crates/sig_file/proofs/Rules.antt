@@ -1,5 +1,5 @@
 -- What follows from the rules of an image.
-use Rattle.sig_file.proofs.Common.{◌≡◌, ◌<◌, ◌≤◌, ◌^◌, ◌++◌, ◌∷◌, [], ℕ, List, true, All, AllByRecursion, All-from_recursion, length, ltb, arith, leb-true, leb, HasFew, IsNamed, Each, IsOperation, IsSignalBehind, MayDo, Scope, is_name_length, operand_count, FunOp, Id, Neg, Not, And, Or, Xor, Eq, Ne, Lt, Le, Gt, Ge, Add, Sub, Mul, Div, Mod, ImageOp, ImageOpKind, ImageSignal, and_parts}
+use Rattle.sig_file.proofs.Common.{◌≡◌, ◌<◌, ◌≤◌, ◌^◌, ◌++◌, ◌∷◌, [], ℕ, List, true, All, AllByRecursion, All-from_recursion, length, ltb, arith, leb-true, leb, HasFew, IsNamed, Each, IsOperation, IsSignalBehind, MayDo, Scope, is_name_length, operand_count, FunOp, Id, ImageOp, ImageOpKind, ImageSignal, and_parts}
 use Rattle.sig_file.specs.declared.images.ImageOpKind.TheVariants as does
 
 each_of : {A : Type 0} (right : List A → A → Type 0) (Q : A → Type 0) (before xs : List A) → ((b : List A) (x : A) → right b x → Q x) → Each right before xs → AllByRecursion Q xs
@@ -18,30 +18,11 @@ all_named inputs signals h = all_of (IsSignalBehind inputs) IsNamed signals (λ 
 
 pub count_few : (op : FunOp) → operand_count op ≤ 2
 count_few Id = omega arith
-count_few Neg = omega arith
-count_few Not = omega arith
-count_few And = omega arith
-count_few Or = omega arith
-count_few Xor = omega arith
-count_few Eq = omega arith
-count_few Ne = omega arith
-count_few Lt = omega arith
-count_few Le = omega arith
-count_few Gt = omega arith
-count_few Ge = omega arith
-count_few Add = omega arith
-count_few Sub = omega arith
-count_few Mul = omega arith
-count_few Div = omega arith
-count_few Mod = omega arith
+count_few other = omega arith
 
 does_few : (scope : Scope) (kind : ImageOpKind) → MayDo scope kind → HasFew kind
-does_few scope (does.Read x) h = tt
 does_few scope (does.Fun y op operands) h = omega (arith, count_few op, h.count)
-does_few scope (does.Copy y x) h = tt
-does_few scope (does.Const y value) h = tt
-does_few scope (does.DelayRead y m) h = tt
-does_few scope (does.Store m x) h = tt
+does_few scope other h = tt
 
 pub all_few : (scope : Scope) (ops : List ImageOp) → Each (λ before. IsOperation scope) [] ops → All (λ op. HasFew op.kind) ops
 all_few scope ops h = all_of (λ before. IsOperation scope) (λ op. HasFew op.kind) ops (λ b op right. does_few scope op.kind right.kind) h

@@ -1,10 +1,6 @@
 -- Small facts.
 use Rattle.sig_file.proofs.Common.{OnOk, Result, Ok, Err, ◌≡◌, ◌++◌, ◌∷◌, [], List, ℕ, Bool, true, false, cond, is_some, Option, Some, refl, sym, ap, ◌∙◌, bytes_eq, bytes_eq-Decides, list_any, list_any-append, ◌||◌}
 
-pub cond_false : {A : Type 0} (b : Bool) (x y : A) → b ≡ false → cond b x y ≡ y
-cond_false true x y e = absurd cc
-cond_false false x y e = refl
-
 turned : (a b : List ℕ) (t s : Bool) → bytes_eq a b ≡ t → bytes_eq b a ≡ s → t ≡ s
 turned a b true true e f = refl
 turned a b false false e f = refl

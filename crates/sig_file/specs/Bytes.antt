@@ -100,9 +100,5 @@ abbrev pub IsNamed : ImageSignal → Type 0
 IsNamed signal = length signal.name < 2 ^ 32
 
 abbrev pub HasFew : ImageOpKind → Type 0
-HasFew (does.Read x) = Unit {0}
 HasFew (does.Fun y op operands) = length operands < 256
-HasFew (does.Copy y x) = Unit {0}
-HasFew (does.Const y value) = Unit {0}
-HasFew (does.DelayRead y m) = Unit {0}
-HasFew (does.Store m x) = Unit {0}
+HasFew other = Unit {0}

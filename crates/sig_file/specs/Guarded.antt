@@ -56,12 +56,10 @@ guards_of image = record {
 
 -- it reads the signal
 abbrev pub Reads : ImageOpKind → SigId → Type 0
-Reads (does.Read input) x = ⊥
 Reads (does.Fun y op operands) x = Contains operands (Sig x)
 Reads (does.Copy y source) x = x ≡ source
-Reads (does.Const y value) x = ⊥
-Reads (does.DelayRead y memory) x = ⊥
 Reads (does.Store memory source) x = x ≡ source
+Reads other x = ⊥
 
 -- it writes the signal
 abbrev pub Writes : ImageOpKind → SigId → Type 0

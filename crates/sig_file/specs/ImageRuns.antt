@@ -48,10 +48,7 @@ Ends (does.Read x) at s cause = (slice_get s.flows x.0 ≡ Some []) × (cause �
 Ends (does.Fun y op operands) at s cause =
     ((v : ℤ) × Computes op operands s v × (has_64_bits v ≡ false) × (cause ≡ Overflow at))
     ⊎ ((values : List ℤ) × HaveValues s.registers operands values × HasZeroDivisor (function_of op) values × (cause ≡ ZeroDivisor at))
-Ends (does.Copy y x) at s cause = ⊥
-Ends (does.Const y value) at s cause = ⊥
-Ends (does.DelayRead y memory) at s cause = ⊥
-Ends (does.Store memory x) at s cause = ⊥
+Ends other at s cause = ⊥
 
 -- ---- one instant
 

@@ -7,7 +7,7 @@ use Rattle.sig_base.specs.declared.signal.Signal.{Signal}
 use Rattle.sig_kernel.specs.Table.{kind_at}
 use Rattle.sig_kernel.specs.declared.equation.Equation.{Equation}
 use Rattle.sig_kernel.specs.declared.equation.Form.{Form}
-use Rattle.sig_kernel.specs.declared.equation.Form.TheVariants.{Fun, Delay, When, WhenConst, Default, Sync, Event as EventOf}
+use Rattle.sig_kernel.specs.declared.equation.Form.TheVariants.{Fun, Delay, When, WhenConst, Default, Event as EventOf}
 use Rattle.sig_kernel.specs.declared.kernel.Kernel.{Kernel}
 use Rattle.sig_plan.specs.Plans.{PlanView}
 use Rattle.sig_plan.specs.declared.op.Op.{Op}
@@ -29,12 +29,7 @@ image_signal signal = record { kind = signal.kind; name = signal.name }
 -- the memory of a delay has the kind of the signal that the delay defines
 abbrev pub memory_of : List Signal → Form → Option ImageMemory
 memory_of signals (Delay y x initial) = Some (record { kind = unwrap_or (kind_at signals y) Integer; init = initial })
-memory_of signals (Fun y op operands) = None
-memory_of signals (When y x b) = None
-memory_of signals (WhenConst y constant b) = None
-memory_of signals (Default y u v) = None
-memory_of signals (Sync x y) = None
-memory_of signals (EventOf y x) = None
+memory_of signals other = None
 
 -- those of the delays, in the order of the equations
 abbrev pub memories_of : Kernel → List ImageMemory
@@ -42,12 +37,7 @@ memories_of kernel = filter_map (λ equation. memory_of kernel.signals equation.
 
 abbrev pub is_delay : Form → Bool
 is_delay (Delay y x initial) = true
-is_delay (Fun y op operands) = false
-is_delay (When y x b) = false
-is_delay (WhenConst y constant b) = false
-is_delay (Default y u v) = false
-is_delay (Sync x y) = false
-is_delay (EventOf y x) = false
+is_delay other = false
 
 -- the number of a delay's memory: how many delays stand before it
 abbrev pub memory_number : List Equation → ℕ → ℕ
@@ -86,11 +76,7 @@ equation_numbered kernel guard kind (Some e) = equation_at guard (memory_number 
 -- an operation of a plan under this guard, at the place of its signal where it reads an input, and else of its equation
 abbrev pub image_op : Kernel → ℕ → OpKind → Option EqId → Option ImageOp
 image_op kernel guard (Read x) equation = read_at guard x (slice_get kernel.signals x.0)
-image_op kernel guard Compute equation = equation_numbered kernel guard Compute equation
-image_op kernel guard Left equation = equation_numbered kernel guard Left equation
-image_op kernel guard Right equation = equation_numbered kernel guard Right equation
-image_op kernel guard DelayRead equation = equation_numbered kernel guard DelayRead equation
-image_op kernel guard (Store number) equation = equation_numbered kernel guard (Store number) equation
+image_op kernel guard other equation = equation_numbered kernel guard other equation
 
 -- ---- nodes
 

@@ -1,5 +1,6 @@
 -- A translation adds signals behind those that are there.
-use Rattle.sig_flat.proofs.Common.{◌≡◌, ◌++◌, ℕ, ℤ, List, [], ◌∷◌, Option, None, Some, refl, sym, ap, ◌∙◌, append_assoc, append-nil, Kind, Boolean, Event, SigId, Signal, Span, IsPrefixOf, BinOp, Default, When, Plus, Meet, Less, Or, Xor, And, Eq, Ne, Lt, Le, Gt, Ge, Add, Sub, Mul, Div, Mod, FlatExpression, SigOf, Const as ConstOf, Unary, Binary, DelayOf, Cell, FlatEquation, Defines, Equal, FlatBody, Form, Fun, Delay, Id, Operand, Sig, stored, unary_row, binary_row, kind_of_result, Site, Made, Translated, Together, with_signal, with_equation, with_own, with_clocks, by_one, unary_form, binary_form, kind_at, signal_in, signal_id, plus, meet, less, binary, cell, translate, operands_from, with_syncs, with_all_syncs, with_flat_equation, with_flat_equations, made_of}
+use Rattle.sig_flat.proofs.Common.{◌≡◌, ◌++◌, ℕ, ℤ, List, [], ◌∷◌, Option, None, Some, refl, sym, ap, ◌∙◌, append_assoc, append-nil, Kind, Boolean, Event, SigId, Signal, Span, IsPrefixOf, BinOp, Plus, Meet, Less, FlatExpression, SigOf, Unary, Binary, DelayOf, Cell, FlatEquation, Defines, Equal, FlatBody, Form, Fun, Delay, Id, Operand, Sig, stored, unary_row, binary_row, kind_of_result, Site, Made, Translated, Together, with_signal, with_equation, with_own, with_clocks, by_one, unary_form, binary_form, kind_at, signal_in, signal_id, less, binary, cell, translate, operands_from, with_syncs, with_all_syncs, with_flat_equation, with_flat_equations, made_of, clocked}
+use Rattle.sig_kernel.specs.declared.equation.Form.TheVariants.{When, Default}
 
 pub record Grows (before after : Made) : Type 0 where
   pub more : List Signal
@@ -34,11 +35,8 @@ one_grows left site kind at form made = as_signals refl (own_grows left site kin
 clocks_grow : (site : Site) (at : Span) (made : Made) → Grows made (with_clocks site at made)
 clocks_grow site at made = then (signal_grows site Event at made) (signal_grows site Event at (with_signal site Event at made))
 
-plus_grows : (left : Option ℕ) (site : Site) (at : Span) (u v : Operand) (made : Made) → Grows made (plus left site at u v made).made
-plus_grows left site at u v made = as_signals refl (then (clocks_grow site at made) (own_grows left site Event at (with_clocks site at made)))
-
-meet_grows : (left : Option ℕ) (site : Site) (at : Span) (u v : Operand) (made : Made) → Grows made (meet left site at u v made).made
-meet_grows left site at u v made = as_signals refl (then (clocks_grow site at made) (own_grows left site Event at (with_clocks site at made)))
+clocked_grows : (left : Option ℕ) (site : Site) (at : Span) (last : SigId → SigId → SigId → Form) (u v : Operand) (made : Made) → Grows made (clocked left site at last u v made).made
+clocked_grows left site at last u v made = as_signals refl (then (clocks_grow site at made) (own_grows left site Event at (with_clocks site at made)))
 
 less_grows : (left : Option ℕ) (site : Site) (at : Span) (u v : Operand) (made : Made) → Grows made (less left site at u v made).made
 less_grows left site at u v made =
@@ -52,25 +50,10 @@ abbrev kind_of_row : BinOp → Translated → Translated → Kind
 kind_of_row op u v = kind_of_result (binary_row op).result u.kind (Some v.kind)
 
 pub binary_grows : (left : Option ℕ) (site : Site) (op : BinOp) (at : Span) (u v : Translated) → Grows v.made (binary left site op at u v).made
-binary_grows left site Plus at u v = plus_grows left site at u.operand v.operand v.made
-binary_grows left site Meet at u v = meet_grows left site at u.operand v.operand v.made
+binary_grows left site Plus at u v = clocked_grows left site at Default u.operand v.operand v.made
+binary_grows left site Meet at u v = clocked_grows left site at When u.operand v.operand v.made
 binary_grows left site Less at u v = less_grows left site at u.operand v.operand v.made
-binary_grows left site Default at u v = one_grows left site (kind_of_row Default u v) at (binary_form Default u.operand v.operand) v.made
-binary_grows left site When at u v = one_grows left site (kind_of_row When u v) at (binary_form When u.operand v.operand) v.made
-binary_grows left site Or at u v = one_grows left site (kind_of_row Or u v) at (binary_form Or u.operand v.operand) v.made
-binary_grows left site Xor at u v = one_grows left site (kind_of_row Xor u v) at (binary_form Xor u.operand v.operand) v.made
-binary_grows left site And at u v = one_grows left site (kind_of_row And u v) at (binary_form And u.operand v.operand) v.made
-binary_grows left site Eq at u v = one_grows left site (kind_of_row Eq u v) at (binary_form Eq u.operand v.operand) v.made
-binary_grows left site Ne at u v = one_grows left site (kind_of_row Ne u v) at (binary_form Ne u.operand v.operand) v.made
-binary_grows left site Lt at u v = one_grows left site (kind_of_row Lt u v) at (binary_form Lt u.operand v.operand) v.made
-binary_grows left site Le at u v = one_grows left site (kind_of_row Le u v) at (binary_form Le u.operand v.operand) v.made
-binary_grows left site Gt at u v = one_grows left site (kind_of_row Gt u v) at (binary_form Gt u.operand v.operand) v.made
-binary_grows left site Ge at u v = one_grows left site (kind_of_row Ge u v) at (binary_form Ge u.operand v.operand) v.made
-binary_grows left site Add at u v = one_grows left site (kind_of_row Add u v) at (binary_form Add u.operand v.operand) v.made
-binary_grows left site Sub at u v = one_grows left site (kind_of_row Sub u v) at (binary_form Sub u.operand v.operand) v.made
-binary_grows left site Mul at u v = one_grows left site (kind_of_row Mul u v) at (binary_form Mul u.operand v.operand) v.made
-binary_grows left site Div at u v = one_grows left site (kind_of_row Div u v) at (binary_form Div u.operand v.operand) v.made
-binary_grows left site Mod at u v = one_grows left site (kind_of_row Mod u v) at (binary_form Mod u.operand v.operand) v.made
+binary_grows left site op at u v = one_grows left site (kind_of_row op u v) at (binary_form op u.operand v.operand) v.made
 
 pub cell_grows : (left : Option ℕ) (site : Site) (init : ℤ) (at : Span) (x b : Translated) → Grows b.made (cell left site init at x b).made
 cell_grows left site init at x b =
@@ -83,26 +66,16 @@ cell_grows left site init at x b =
     (then (signal_grows site Event at whole) (then (signal_grows site Event at one) (signal_grows site Event at two)))))
 
 pub translate_grows : (left : Option ℕ) (site : Site) (e : FlatExpression) (made : Made) → Grows made (translate left site e made).made
-translate_grows None site (SigOf number at) made = same made
 translate_grows (Some left) site (SigOf number at) made = one_grows (Some left) site (kind_at made.signals left) at (λ y. Fun y Id (Sig (signal_id number) ∷ [])) made
-translate_grows None site (ConstOf value kind at) made = same made
-translate_grows (Some left) site (ConstOf value kind at) made = same made
-translate_grows None site (Unary op operand at) made = let x : Translated = translate None site operand made in
-    then (translate_grows None site operand made) (one_grows None site (kind_of_result (unary_row op).result x.kind None) at (unary_form op x.operand) x.made)
-translate_grows (Some left) site (Unary op operand at) made = let x : Translated = translate None site operand made in
-    then (translate_grows None site operand made) (one_grows (Some left) site (kind_of_result (unary_row op).result x.kind None) at (unary_form op x.operand) x.made)
-translate_grows None site (Binary op first second at) made = let u : Translated = translate None site first made in let v : Translated = translate None site second u.made in
-    then (translate_grows None site first made) (then (translate_grows None site second u.made) (binary_grows None site op at u v))
-translate_grows (Some left) site (Binary op first second at) made = let u : Translated = translate None site first made in let v : Translated = translate None site second u.made in
-    then (translate_grows None site first made) (then (translate_grows None site second u.made) (binary_grows (Some left) site op at u v))
-translate_grows None site (DelayOf operand init at) made = let x : Translated = translate None site operand made in
-    then (translate_grows None site operand made) (one_grows None site (stored x.kind) at (λ y. Delay y (signal_in x.operand) init) x.made)
-translate_grows (Some left) site (DelayOf operand init at) made = let x : Translated = translate None site operand made in
-    then (translate_grows None site operand made) (one_grows (Some left) site (stored x.kind) at (λ y. Delay y (signal_in x.operand) init) x.made)
-translate_grows None site (Cell operand held init at) made = let x : Translated = translate None site operand made in let b : Translated = translate None site held x.made in
-    then (translate_grows None site operand made) (then (translate_grows None site held x.made) (cell_grows None site init at x b))
-translate_grows (Some left) site (Cell operand held init at) made = let x : Translated = translate None site operand made in let b : Translated = translate None site held x.made in
-    then (translate_grows None site operand made) (then (translate_grows None site held x.made) (cell_grows (Some left) site init at x b))
+translate_grows left site (Unary op operand at) made = let x : Translated = translate None site operand made in
+    then (translate_grows None site operand made) (one_grows left site (kind_of_result (unary_row op).result x.kind None) at (unary_form op x.operand) x.made)
+translate_grows left site (Binary op first second at) made = let u : Translated = translate None site first made in let v : Translated = translate None site second u.made in
+    then (translate_grows None site first made) (then (translate_grows None site second u.made) (binary_grows left site op at u v))
+translate_grows left site (DelayOf operand init at) made = let x : Translated = translate None site operand made in
+    then (translate_grows None site operand made) (one_grows left site (stored x.kind) at (λ y. Delay y (signal_in x.operand) init) x.made)
+translate_grows left site (Cell operand held init at) made = let x : Translated = translate None site operand made in let b : Translated = translate None site held x.made in
+    then (translate_grows None site operand made) (then (translate_grows None site held x.made) (cell_grows left site init at x b))
+translate_grows _ site _ made = same made
 
 pub operands_grow : (site : Site) (es : List FlatExpression) (made : Made) → Grows made (operands_from site es made).made
 operands_grow site [] made = same made

@@ -26,18 +26,16 @@ seen_last (s ∷ now) v = seen_last now v
 -- instants of the same length that agree are the same
 pub same_instant : (a b : Instant) → length a ≡ length b → Agree (length a) a b → a ≡ b
 same_instant [] [] e h = refl
-same_instant [] (t ∷ b) e h = absurd (omega arith)
-same_instant (s ∷ a) [] e h = absurd (omega arith)
 same_instant (s ∷ a) (t ∷ b) e h =
     let first : s ≡ t = h zero (omega arith) in
     let rest : a ≡ b = same_instant a b (omega arith) (λ x below. h (suc x) (omega arith)) in
     cc
+same_instant _ _ e h = absurd (omega arith)
 
 pub take_agrees : (count : ℕ) (now : Instant) → Agree count now (take count now)
 take_agrees zero now x below = absurd (omega arith)
-take_agrees (suc count) [] x below = refl
-take_agrees (suc count) (s ∷ now) zero below = refl
 take_agrees (suc count) (s ∷ now) (suc x) below = take_agrees count now x (omega arith)
+take_agrees (suc count) _ _ below = refl
 
 -- an instant that agrees with another one begins with it
 pub begins_with : (a b : Instant) → length a ≤ length b → Agree (length a) a b → take (length a) b ≡ a
@@ -51,16 +49,14 @@ begins_with (s ∷ a) (t ∷ b) few h =
 -- kinds
 pub kinds_length : (signals : List Signal) (now : Instant) → AreOfKinds Bounded (kinds_of signals) now → length now ≡ length signals
 kinds_length [] [] h = refl
-kinds_length [] (v ∷ now) h = absurd h
-kinds_length (s ∷ signals) [] h = absurd h
 kinds_length (s ∷ signals) (v ∷ now) h = ap suc (kinds_length signals now h.1)
+kinds_length _ _ h = absurd h
 
 pub kinds_more : (signals : List Signal) (now : Instant) (s : Signal) (v : Seen) → AreOfKinds Bounded (kinds_of signals) now → IsOfKind Bounded s.kind v
     → AreOfKinds Bounded (kinds_of (signals ++ s ∷ [])) (now ++ v ∷ [])
 kinds_more [] [] s v h k = (k, tt)
-kinds_more [] (w ∷ now) s v h k = absurd h
-kinds_more (q ∷ signals) [] s v h k = absurd h
 kinds_more (q ∷ signals) (w ∷ now) s v h k = (h.0, kinds_more signals now s v h.1 k)
+kinds_more _ _ s v h k = absurd h
 
 pub kinds_begin : (signals more : List Signal) (now : Instant) → AreOfKinds Bounded (kinds_of (signals ++ more)) now → AreOfKinds Bounded (kinds_of signals) (take (length signals) now)
 kinds_begin [] more now h = tt
@@ -96,7 +92,6 @@ kind_fits kind (Some v) h = value_fits kind v h
 
 pub fitting : (signals : List Signal) (now : Instant) → AreOfKinds Bounded (kinds_of signals) now → Fitting now
 fitting [] [] h x = tt
-fitting [] (v ∷ now) h x = absurd h
-fitting (s ∷ signals) [] h x = absurd h
 fitting (s ∷ signals) (v ∷ now) h zero = kind_fits s.kind v h.0
 fitting (s ∷ signals) (v ∷ now) h (suc x) = fitting signals now h.1 x
+fitting _ _ h x = absurd h

@@ -82,9 +82,8 @@ both_to f instant x y (Some a) (Some b) (Some v) is also fits h =
 pub both_from : (f : Function) (instant : Instant) (x y : SigId) (s t w : Seen) → seen_at instant x.0 ≡ s → seen_at instant y.0 ≡ t
     → AppliesToBoth f (Signal s) (Signal t) w → IsFunction Bounded f instant (Sig x ∷ Sig y ∷ []) w
 both_from f instant x y None None w is also h = subst (λ (o : Seen). IsFunction Bounded f instant (Sig x ∷ Sig y ∷ []) o) (sym h) (is, (also, tt))
-both_from f instant x y None (Some b) w is also h = absurd h
-both_from f instant x y (Some a) None w is also h = absurd h
 both_from f instant x y (Some a) (Some b) w is also h = subst (λ (o : Seen). IsFunction Bounded f instant (Sig x ∷ Sig y ∷ []) o) (sym h.1) (a ∷ b ∷ [], (is, (also, tt)), h.2)
+both_from f instant x y _ _ w is also h = absurd h
 
 -- a signal and a constant
 pub first_to : (f : Function) (instant : Instant) (x : SigId) (d : ℤ) (s w : Seen) → seen_at instant x.0 ≡ s → IsOfKind Bounded Integer w

@@ -1,27 +1,10 @@
 -- An operator of two operands, from what its operands are.
-use Rattle.sig_flat.proofs.Common.{◌≡◌, ℕ, Option, None, Some, refl, ap, ◌∙◌, Span, BinOp, Default, When, Plus, Meet, Less, Or, Xor, And, Eq, Ne, Lt, Le, Gt, Ge, Add, Sub, Mul, Div, Mod, FlatExpr, FlatExpression, Binary, flat_expression_of, Site, Made, Translated, binary, translate, translated, Term}
+use Rattle.sig_flat.proofs.Common.{◌≡◌, ℕ, Option, None, Some, refl, ap, ◌∙◌, Span, BinOp, Default, FlatExpr, FlatExpression, Binary, flat_expression_of, Site, Made, Translated, binary, translate, translated, Term}
 
 -- what was made for the second operand is what the operator adds to
 first_made : (left : Option ℕ) (site : Site) (op : BinOp) (at : Span) (u : Term) (a b : Made) (v : Translated) → binary left site op at (translated u a) v ≡ binary left site op at (translated u b) v
 first_made left site Default at u a b v = refl
-first_made left site When at u a b v = refl
-first_made left site Plus at u a b v = refl
-first_made left site Meet at u a b v = refl
-first_made left site Less at u a b v = refl
-first_made left site Or at u a b v = refl
-first_made left site Xor at u a b v = refl
-first_made left site And at u a b v = refl
-first_made left site Eq at u a b v = refl
-first_made left site Ne at u a b v = refl
-first_made left site Lt at u a b v = refl
-first_made left site Le at u a b v = refl
-first_made left site Gt at u a b v = refl
-first_made left site Ge at u a b v = refl
-first_made left site Add at u a b v = refl
-first_made left site Sub at u a b v = refl
-first_made left site Mul at u a b v = refl
-first_made left site Div at u a b v = refl
-first_made left site Mod at u a b v = refl
+first_made left site _ at u a b v = refl
 
 of_both : Option ℕ → Site → BinOp → Span → FlatExpression → Translated → Translated
 of_both left site op at second x = binary left site op at x (translate None site second x.made)

@@ -43,7 +43,7 @@ pub use Rattle.sig_kernel.specs.declared.table.Sort.{Sort}
 pub use Rattle.sig_kernel.specs.declared.table.Sort.TheVariants.{Any, Event as AnEvent, Integer as AnInteger, Truth}
 pub use Rattle.sig_kernel.proofs.Common.{AllByRecursion, AllPass, AllPass-from_list_all, AreOfKinds, Boolean, Bounded, DefinesEach, Function, Gives, Instant, Integer, IsDistinct, IsFunction, IsKernelTrace, IsOfKind, IsPrefixOf, IsValue, Kind, Meets, Memory, Range, Row, Seen, SigId, Signal, Span, Trace, constant_is, defines, false≢true, fits_by_test, flow_of, form_fits, function_of, handed_on_where, inputs_of, instant_text, is_kind, is_silent, keeps_to, keeps_to_one, kind_fits, kind_of, last_of, list_all, list_any, operand_is, operands_of, output_text, outputs_of, reduce, remembered, seen_at, seen_lines, target_fits, where_present}
 pub use Rattle.sig_flat.specs.Bodies.{EquationSpeaks, IsBelow, IsSignal, NamesBelow, NamesItsSignals, Speaks}
-pub use Rattle.sig_flat.specs.KernelOf.{Made, Site, Together, Translated, binary, binary_form, by_one, cell, cluster_at, kernel_of, kind_at, less, made_of, made_signal, meet, next, operands_from, own, place_of, plus, sampled_form, signal_id, signal_in, translate, unary_form, with_all_syncs, with_clock_equations, with_clocks, with_equation, with_flat_equation, with_flat_equations, with_own, with_signal, with_syncs}
+pub use Rattle.sig_flat.specs.KernelOf.{Made, Site, Together, Translated, binary, binary_form, by_one, cell, clocked, cluster_at, kernel_of, kind_at, less, made_of, made_signal, meet, named, next, operands_from, own, place_of, plus, sampled_form, signal_id, signal_in, translate, unary_form, with_all_syncs, with_clock_equations, with_clocks, with_equation, with_flat_equation, with_flat_equations, with_own, with_signal, with_syncs}
 pub use Rattle.sig_flat.specs.Places.{AtPlacesOfKernel, AtTakenOfBody, AtTakenOfEquation}
 pub use Rattle.sig_flat.specs.Restricted.{restricted}
 pub use Rattle.sig_flat.specs.Rows.{AreMet, found_at}

@@ -1,5 +1,5 @@
 -- What an operator's operands are, and what the operator makes of them, determines its intermediates.
-use Rattle.sig_flat.proofs.Common.{◌≡◌, ℕ, suc, ℤ, pos, false, Option, None, Some, refl, sym, ap, subst, ◌∙◌, arith, inl, Kind, Boolean, Event, SigId, Span, Seen, Instant, Bounded, IsValue, IsOfKind, AreOfKinds, seen_at, Meets, where_present, Form, Operand, BinOp, Plus, Meet, Less, binary_row, kind_of_result, stored, Found, Combines, clock_of, sampled, delayed, held as held_value, kinds_of, Allows, found_at, Site, Made, Translated, with_signal, with_own, with_clocks, own, next as next_signal, by_one, binary_form, signal_in, signal_id, less, binary, cell}
+use Rattle.sig_flat.proofs.Common.{◌≡◌, ℕ, suc, ℤ, pos, false, Option, None, Some, refl, sym, ap, subst, ◌∙◌, arith, inl, Kind, Boolean, Event, SigId, Span, Seen, Instant, Bounded, IsValue, IsOfKind, AreOfKinds, seen_at, Meets, where_present, Form, Operand, BinOp, Plus, Meet, Less, binary_row, kind_of_result, stored, Found, Combines, clock_of, sampled, delayed, held as held_value, kinds_of, Allows, found_at, Site, Made, Translated, with_signal, with_own, with_clocks, own, next as next_signal, by_one, binary_form, signal_in, signal_id, less, binary, cell, clocked}
 use Rattle.sig_kernel.specs.declared.equation.Form.TheVariants.{When, Default}
 use Rattle.sig_tree.specs.Operators.{Signal, merged}
 use Rattle.sig_flat.proofs.MetOperators.{less_row, cell_row}
@@ -7,7 +7,7 @@ use Rattle.sig_flat.proofs.Agreement.{Agree, Fitting}
 use Rattle.sig_flat.proofs.Instants.{at_first}
 use Rattle.sig_flat.proofs.Kinded.{clock_kind, or_kind, event_truth, sampled_kind, delayed_kind}
 use Rattle.sig_flat.proofs.TranslationCases.{is_fixed, found_signal, Met, equation_meets, forms_met, forms_meet, own_met}
-use Rattle.sig_flat.proofs.MetExpressions.{binary_meets, clock_forms, clocked, IsClocked, plus_clocked, meet_clocked, less_forms, cell_forms, with_truths, cell_kept, cell_whole, cell_signals}
+use Rattle.sig_flat.proofs.MetExpressions.{binary_meets, clock_forms, IsClocked, plus_clocked, meet_clocked, less_forms, cell_forms, with_truths, cell_kept, cell_whole, cell_signals}
 use Rattle.sig_flat.proofs.AddedSignals.{Adds, next_is, adds_signal, LeftIs, left_later, same_seen, adds_own, adds_begins, Clocks, clocks_added, clocks_begin}
 
 -- an instant over the signals that were there goes on to one instant over those of a translation

@@ -1,5 +1,5 @@
 -- A kernel has few equations beside its signals.
-use Rattle.sig_flat.proofs.Common.{◌≡◌, ◌+◌, ◌*◌, ◌≤◌, ℕ, suc, ℤ, pos, List, [], ◌∷◌, length, Option, None, Some, refl, ap, arith, length-append, Kind, Boolean, Event, SigId, Span, flat_weight, flat_weights, BinOp, Default as DefaultOf, When as Sampled, Plus, Meet, Less, Or as OrOf, Xor as XorOf, And as AndOf, Eq as EqOf, Ne as NeOf, Lt as LtOf, Le as LeOf, Gt as GtOf, Ge as GeOf, Add as AddOf, Sub as SubOf, Mul as MulOf, Div as DivOf, Mod as ModOf, FlatExpression, SigOf, Const as ConstOf, Unary, Binary, DelayOf, Cell, FlatEquation, Defines, Equal, FlatBody, unary_row, binary_row, kind_of_result, stored, Id, Not, Operand, Sig, Form, Fun, Delay, WhenConst, Sync, EventOf, Site, Made, Translated, Together, signal_id, signal_in, with_equation, with_signal, with_own, with_clocks, with_clock_equations, by_one, own, next, unary_form, binary_form, kind_at, cluster_at, plus, meet, less, binary, cell, translate, operands_from, with_syncs, with_all_syncs, with_flat_equation, with_flat_equations, kernel_of}
+use Rattle.sig_flat.proofs.Common.{◌≡◌, ◌+◌, ◌*◌, ◌≤◌, ℕ, suc, ℤ, pos, List, [], ◌∷◌, length, Option, None, Some, refl, ap, arith, length-append, Kind, Boolean, Event, SigId, Span, flat_weight, flat_weights, BinOp, Plus, Meet, Less, FlatExpression, SigOf, Const as ConstOf, Unary, Binary, DelayOf, Cell, FlatEquation, Defines, Equal, FlatBody, unary_row, binary_row, kind_of_result, stored, Id, Not, Operand, Sig, Form, Fun, Delay, WhenConst, Sync, EventOf, Site, Made, Translated, Together, signal_id, signal_in, with_equation, with_signal, with_own, with_clocks, with_clock_equations, by_one, own, next, unary_form, binary_form, kind_at, cluster_at, less, binary, cell, translate, operands_from, with_syncs, with_all_syncs, with_flat_equation, with_flat_equations, kernel_of, clocked}
 use Rattle.sig_kernel.specs.declared.equation.Form.TheVariants.{When, Default}
 
 -- at most two equations for each signal that was made, and so many more
@@ -18,7 +18,7 @@ after f g = let first = f.bound in let second = g.bound in record { bound = omeg
 less_than : {x y : ℕ} {a b : Made} → x ≤ y → Few x a b → Few y a b
 less_than within f = let bound = f.bound in record { bound = omega arith }
 
-signal_more : (site : Site) (kind : Kind) (at : Span) (made : Made) → length (with_signal site kind at made).signals ≡ length made.signals + 1
+pub signal_more : (site : Site) (kind : Kind) (at : Span) (made : Made) → length (with_signal site kind at made).signals ≡ length made.signals + 1
 signal_more site kind at made = length-append made.signals _
 
 equation_more : (made : Made) (at : Span) (form : Form) → length (with_equation made at form).equations ≡ length made.equations + 1
@@ -33,7 +33,7 @@ one_few site kind at form made =
 left_few : (left : ℕ) (site : Site) (kind : Kind) (at : Span) (form : SigId → Form) (made : Made) → Few 1 made (by_one (Some left) site kind at form made).made
 left_few left site kind at form made = let equations = equation_more made at (form (signal_id left)) in record { bound = omega arith }
 
-clocks_more : (site : Site) (at : Span) (made : Made) → length (with_clocks site at made).signals ≡ length made.signals + 2
+pub clocks_more : (site : Site) (at : Span) (made : Made) → length (with_clocks site at made).signals ≡ length made.signals + 2
 clocks_more site at made =
     let one = signal_more site Event at made in
     let two = signal_more site Event at (with_signal site Event at made) in
@@ -53,26 +53,15 @@ own_at_least : (left : Option ℕ) (site : Site) (kind : Kind) (at : Span) (made
 own_at_least None site kind at made = let one = signal_more site kind at made in omega arith
 own_at_least (Some left) site kind at made = omega arith
 
-plus_few : (left : Option ℕ) (site : Site) (at : Span) (u v : Operand) (made : Made) → Few 0 made (plus left site at u v made).made
-plus_few left site at u v made =
+clocked_few : (left : Option ℕ) (site : Site) (at : Span) (last : SigId → SigId → SigId → Form) (u v : Operand) (made : Made) → Few 0 made (clocked left site at last u v made).made
+clocked_few left site at last u v made =
     let clocks : Made = with_clocks site at made in
     let owned : Made = with_own left site Event at clocks in
     let a = clocks_more site at made in
     let b = own_at_least left site Event at clocks in
     let c = own_equations left site Event at clocks in
     let d = clock_equations_more at (next made) u v owned in
-    let e = equation_more (with_clock_equations at (next made) u v owned) at (Default (signal_id (own left clocks)) (signal_id (next made)) (signal_id (suc (next made)))) in
-    record { bound = omega arith }
-
-meet_few : (left : Option ℕ) (site : Site) (at : Span) (u v : Operand) (made : Made) → Few 0 made (meet left site at u v made).made
-meet_few left site at u v made =
-    let clocks : Made = with_clocks site at made in
-    let owned : Made = with_own left site Event at clocks in
-    let a = clocks_more site at made in
-    let b = own_at_least left site Event at clocks in
-    let c = own_equations left site Event at clocks in
-    let d = clock_equations_more at (next made) u v owned in
-    let e = equation_more (with_clock_equations at (next made) u v owned) at (When (signal_id (own left clocks)) (signal_id (next made)) (signal_id (suc (next made)))) in
+    let e = equation_more (with_clock_equations at (next made) u v owned) at (last (signal_id (own left clocks)) (signal_id (next made)) (signal_id (suc (next made)))) in
     record { bound = omega arith }
 
 less_few : (left : Option ℕ) (site : Site) (at : Span) (u v : Operand) (made : Made) → Few 0 made (less left site at u v made).made
@@ -132,50 +121,18 @@ abbrev result_of : BinOp → Translated → Translated → Kind
 result_of op u v = kind_of_result (binary_row op).result u.kind (Some v.kind)
 
 binary_few : (site : Site) (op : BinOp) (at : Span) (u v : Translated) → Few 0 v.made (binary None site op at u v).made
-binary_few site Plus at u v = plus_few None site at u.operand v.operand v.made
-binary_few site Meet at u v = meet_few None site at u.operand v.operand v.made
+binary_few site Plus at u v = clocked_few None site at Default u.operand v.operand v.made
+binary_few site Meet at u v = clocked_few None site at When u.operand v.operand v.made
 binary_few site Less at u v = less_few None site at u.operand v.operand v.made
-binary_few site DefaultOf at u v = one_few site (result_of DefaultOf u v) at (binary_form DefaultOf u.operand v.operand) v.made
-binary_few site Sampled at u v = one_few site (result_of Sampled u v) at (binary_form Sampled u.operand v.operand) v.made
-binary_few site OrOf at u v = one_few site (result_of OrOf u v) at (binary_form OrOf u.operand v.operand) v.made
-binary_few site XorOf at u v = one_few site (result_of XorOf u v) at (binary_form XorOf u.operand v.operand) v.made
-binary_few site AndOf at u v = one_few site (result_of AndOf u v) at (binary_form AndOf u.operand v.operand) v.made
-binary_few site EqOf at u v = one_few site (result_of EqOf u v) at (binary_form EqOf u.operand v.operand) v.made
-binary_few site NeOf at u v = one_few site (result_of NeOf u v) at (binary_form NeOf u.operand v.operand) v.made
-binary_few site LtOf at u v = one_few site (result_of LtOf u v) at (binary_form LtOf u.operand v.operand) v.made
-binary_few site LeOf at u v = one_few site (result_of LeOf u v) at (binary_form LeOf u.operand v.operand) v.made
-binary_few site GtOf at u v = one_few site (result_of GtOf u v) at (binary_form GtOf u.operand v.operand) v.made
-binary_few site GeOf at u v = one_few site (result_of GeOf u v) at (binary_form GeOf u.operand v.operand) v.made
-binary_few site AddOf at u v = one_few site (result_of AddOf u v) at (binary_form AddOf u.operand v.operand) v.made
-binary_few site SubOf at u v = one_few site (result_of SubOf u v) at (binary_form SubOf u.operand v.operand) v.made
-binary_few site MulOf at u v = one_few site (result_of MulOf u v) at (binary_form MulOf u.operand v.operand) v.made
-binary_few site DivOf at u v = one_few site (result_of DivOf u v) at (binary_form DivOf u.operand v.operand) v.made
-binary_few site ModOf at u v = one_few site (result_of ModOf u v) at (binary_form ModOf u.operand v.operand) v.made
+binary_few site op at u v = one_few site (result_of op u v) at (binary_form op u.operand v.operand) v.made
 
 whole_few : (left : ℕ) (site : Site) (op : BinOp) (at : Span) (u v : Translated) → Few 1 v.made (binary (Some left) site op at u v).made
-whole_few left site Plus at u v = less_than (omega arith) (plus_few (Some left) site at u.operand v.operand v.made)
-whole_few left site Meet at u v = less_than (omega arith) (meet_few (Some left) site at u.operand v.operand v.made)
+whole_few left site Plus at u v = less_than (omega arith) (clocked_few (Some left) site at Default u.operand v.operand v.made)
+whole_few left site Meet at u v = less_than (omega arith) (clocked_few (Some left) site at When u.operand v.operand v.made)
 whole_few left site Less at u v = less_than (omega arith) (less_few (Some left) site at u.operand v.operand v.made)
-whole_few left site DefaultOf at u v = left_few left site (result_of DefaultOf u v) at (binary_form DefaultOf u.operand v.operand) v.made
-whole_few left site Sampled at u v = left_few left site (result_of Sampled u v) at (binary_form Sampled u.operand v.operand) v.made
-whole_few left site OrOf at u v = left_few left site (result_of OrOf u v) at (binary_form OrOf u.operand v.operand) v.made
-whole_few left site XorOf at u v = left_few left site (result_of XorOf u v) at (binary_form XorOf u.operand v.operand) v.made
-whole_few left site AndOf at u v = left_few left site (result_of AndOf u v) at (binary_form AndOf u.operand v.operand) v.made
-whole_few left site EqOf at u v = left_few left site (result_of EqOf u v) at (binary_form EqOf u.operand v.operand) v.made
-whole_few left site NeOf at u v = left_few left site (result_of NeOf u v) at (binary_form NeOf u.operand v.operand) v.made
-whole_few left site LtOf at u v = left_few left site (result_of LtOf u v) at (binary_form LtOf u.operand v.operand) v.made
-whole_few left site LeOf at u v = left_few left site (result_of LeOf u v) at (binary_form LeOf u.operand v.operand) v.made
-whole_few left site GtOf at u v = left_few left site (result_of GtOf u v) at (binary_form GtOf u.operand v.operand) v.made
-whole_few left site GeOf at u v = left_few left site (result_of GeOf u v) at (binary_form GeOf u.operand v.operand) v.made
-whole_few left site AddOf at u v = left_few left site (result_of AddOf u v) at (binary_form AddOf u.operand v.operand) v.made
-whole_few left site SubOf at u v = left_few left site (result_of SubOf u v) at (binary_form SubOf u.operand v.operand) v.made
-whole_few left site MulOf at u v = left_few left site (result_of MulOf u v) at (binary_form MulOf u.operand v.operand) v.made
-whole_few left site DivOf at u v = left_few left site (result_of DivOf u v) at (binary_form DivOf u.operand v.operand) v.made
-whole_few left site ModOf at u v = left_few left site (result_of ModOf u v) at (binary_form ModOf u.operand v.operand) v.made
+whole_few left site op at u v = left_few left site (result_of op u v) at (binary_form op u.operand v.operand) v.made
 
 translate_few : (site : Site) (e : FlatExpression) (made : Made) → Few 0 made (translate None site e made).made
-translate_few site (SigOf number at) made = same made
-translate_few site (ConstOf value kind at) made = same made
 translate_few site (Unary op operand at) made =
     let x : Translated = translate None site operand made in
     then (translate_few site operand made) (one_few site (kind_of_result (unary_row op).result x.kind None) at (unary_form op x.operand) x.made)
@@ -190,6 +147,7 @@ translate_few site (Cell operand held init at) made =
     let x : Translated = translate None site operand made in
     let b : Translated = translate None site held x.made in
     then (translate_few site operand made) (then (translate_few site held x.made) (cell_few None site init at x b))
+translate_few site _ made = same made
 
 definition_few : (left : ℕ) (site : Site) (e : FlatExpression) (made : Made) → Few 1 made (translate (Some left) site e made).made
 definition_few left site (SigOf number at) made = left_few left site (kind_at made.signals left) at (λ y. Fun y Id (Sig (signal_id number) ∷ [])) made

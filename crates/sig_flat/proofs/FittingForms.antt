@@ -13,19 +13,14 @@ pub data IsOperandOf (signals : List Signal) (kind : Kind) : Bool → Operand �
 -- a signal of the first kind may be defined by what is of the second
 abbrev pub takes : Kind → Kind → Bool
 takes Integer Integer = true
-takes Integer Boolean = false
-takes Integer Event = false
-takes Boolean Integer = false
 takes Boolean Boolean = true
 takes Boolean Event = true
-takes Event Integer = false
-takes Event Boolean = false
 takes Event Event = true
+takes _ _ = false
 
 pub takes_itself : (kind : Kind) → takes kind kind ≡ true
 takes_itself Integer = refl
-takes_itself Boolean = refl
-takes_itself Event = refl
+takes_itself _ = refl
 
 pub taken : (wanted given : Kind) → Takes wanted given → takes wanted given ≡ true
 taken wanted given (inl same) = ap (takes wanted) same ∙ takes_itself wanted
@@ -33,13 +28,11 @@ taken wanted given (inr both) = ap (λ w. takes w given) both.0 ∙ ap (takes Bo
 
 takes_integer : (wanted : Kind) → takes wanted Integer ≡ true → wanted ≡ Integer
 takes_integer Integer is = refl
-takes_integer Boolean is = absurd (false≢true is)
-takes_integer Event is = absurd (false≢true is)
+takes_integer _ is = absurd (false≢true is)
 
 takes_boolean : (wanted : Kind) → takes wanted Boolean ≡ true → wanted ≡ Boolean
-takes_boolean Integer is = absurd (false≢true is)
 takes_boolean Boolean is = refl
-takes_boolean Event is = absurd (false≢true is)
+takes_boolean _ is = absurd (false≢true is)
 
 -- the sort of operands whose value a signal of this kind may take
 abbrev sort_for : Kind → Sort
@@ -49,30 +42,22 @@ sort_for Event = AnEvent
 
 handed : (wanted given : Kind) → takes wanted given ≡ true → kind_is (sort_for wanted) given ≡ true
 handed Integer Integer is = refl
-handed Integer Boolean is = absurd (false≢true is)
-handed Integer Event is = absurd (false≢true is)
-handed Boolean Integer is = absurd (false≢true is)
 handed Boolean Boolean is = refl
 handed Boolean Event is = refl
-handed Event Integer is = absurd (false≢true is)
-handed Event Boolean is = absurd (false≢true is)
 handed Event Event is = refl
+handed _ _ is = absurd (false≢true is)
 
 constant_fits : (sort : Sort) (kind : Kind) (c : ℤ) → IsValue Bounded kind c → kind_is sort kind ≡ true → constant_is sort c ≡ true
 constant_fits AnInteger Integer c value fits = (fits_by_test c).1 value
-constant_fits AnInteger Boolean c value fits = absurd (false≢true fits)
-constant_fits AnInteger Event c value fits = absurd (false≢true fits)
 constant_fits Any Integer c value fits = (fits_by_test c).1 value
 constant_fits Any Boolean c (inl zero) fits = ap (λ x. constant_is Any x) zero
 constant_fits Any Boolean c (inr one) fits = ap (λ x. constant_is Any x) one
 constant_fits Any Event c one fits = ap (λ x. constant_is Any x) one
-constant_fits Truth Integer c value fits = absurd (false≢true fits)
 constant_fits Truth Boolean c (inl zero) fits = ap (λ x. constant_is Truth x) zero
 constant_fits Truth Boolean c (inr one) fits = ap (λ x. constant_is Truth x) one
 constant_fits Truth Event c one fits = ap (λ x. constant_is Truth x) one
-constant_fits AnEvent Integer c value fits = absurd (false≢true fits)
-constant_fits AnEvent Boolean c value fits = absurd (false≢true fits)
 constant_fits AnEvent Event c one fits = ap (λ x. constant_is AnEvent x) one
+constant_fits _ _ c value fits = absurd (false≢true fits)
 
 sort_fits : (signals : List Signal) (kind : Kind) (b : Bool) (o : Operand) (sort : Sort)
     → IsOperandOf signals kind b o → kind_is sort kind ≡ true → operand_is signals o sort ≡ true
@@ -84,8 +69,7 @@ as_signal signals kind _ (of_signal x is) = of_signal x is
 
 same_kind : (kind : Kind) → is_kind kind kind ≡ true
 same_kind Integer = refl
-same_kind Boolean = refl
-same_kind Event = refl
+same_kind _ = refl
 
 keeps_one : (signals : List Signal) (kind : Kind) (o : Operand) (s : Sort) → operand_is signals o s ≡ true
     → keeps_to signals kind (o ∷ []) (row (s ∷ []) kind) ≡ true
@@ -157,7 +141,6 @@ when_const_fits signals y w k l c b is takes_it true_it value held =
 
 -- what is merged goes into a signal that takes the merged kind
 merges_into : (w a b : Kind) → accepts Alike a (Some b) ≡ true → takes w (merged a b) ≡ true → (kind_is (sort_for w) a ≡ true) × (kind_is (sort_for w) b ≡ true)
-merges_into Integer Integer Integer alike is = (refl, refl)
 merges_into Integer Integer Boolean alike is = absurd (false≢true alike)
 merges_into Integer Integer Event alike is = absurd (false≢true alike)
 merges_into Integer Boolean b alike is = absurd (false≢true is)
@@ -166,16 +149,12 @@ merges_into Integer Event Boolean alike is = absurd (false≢true is)
 merges_into Integer Event Event alike is = absurd (false≢true is)
 merges_into Boolean Integer b alike is = absurd (false≢true is)
 merges_into Boolean Boolean Integer alike is = absurd (false≢true alike)
-merges_into Boolean Boolean Boolean alike is = (refl, refl)
-merges_into Boolean Boolean Event alike is = (refl, refl)
 merges_into Boolean Event Integer alike is = absurd (false≢true alike)
-merges_into Boolean Event Boolean alike is = (refl, refl)
-merges_into Boolean Event Event alike is = (refl, refl)
 merges_into Event Integer b alike is = absurd (false≢true is)
 merges_into Event Boolean b alike is = absurd (false≢true is)
 merges_into Event Event Integer alike is = absurd (false≢true alike)
 merges_into Event Event Boolean alike is = absurd (false≢true is)
-merges_into Event Event Event alike is = (refl, refl)
+merges_into _ _ _ alike is = (refl, refl)
 
 pub default_fits : (signals : List Signal) (y : SigId) (w a b : Kind) (u v : Operand) → kind_at signals y ≡ Some w
     → accepts Alike a (Some b) ≡ true → takes w (merged a b) ≡ true
@@ -190,22 +169,18 @@ default_fits signals y w a b u v is alike takes_it first second =
 -- the kind of what is kept
 stored_sort : (k : Kind) → kind_is (sort_for (stored k)) k ≡ true
 stored_sort Integer = refl
-stored_sort Boolean = refl
-stored_sort Event = refl
+stored_sort _ = refl
 
 keeps : (signals : List Signal) (k : Kind) (x : Operand) (init : ℤ) → operand_is signals x (sort_for (stored k)) ≡ true → IsValue Bounded (stored k) init
     → keeps_to_one signals (stored k) (x ∷ Const init ∷ []) kept ≡ true
 keeps signals Integer x init is value = kept_by signals Integer (x ∷ Const init ∷ []) [] (row (AnInteger ∷ AnInteger ∷ []) Integer) (row (Truth ∷ Truth ∷ []) Boolean ∷ []) (keeps_two signals Integer x (Const init) AnInteger AnInteger is (constant_fits AnInteger Integer init value refl))
-keeps signals Boolean x init is value =
-    kept_by signals Boolean (x ∷ Const init ∷ []) (row (AnInteger ∷ AnInteger ∷ []) Integer ∷ []) (row (Truth ∷ Truth ∷ []) Boolean) [] (keeps_two signals Boolean x (Const init) Truth Truth is (constant_fits Truth Boolean init value refl))
-keeps signals Event x init is value =
+keeps signals _ x init is value =
     kept_by signals Boolean (x ∷ Const init ∷ []) (row (AnInteger ∷ AnInteger ∷ []) Integer ∷ []) (row (Truth ∷ Truth ∷ []) Boolean) [] (keeps_two signals Boolean x (Const init) Truth Truth is (constant_fits Truth Boolean init value refl))
 
 -- only what is kept is of the kind of what is kept
 pub takes_stored : (w k : Kind) → takes w (stored k) ≡ true → w ≡ stored k
 takes_stored w Integer is = takes_integer w is
-takes_stored w Boolean is = takes_boolean w is
-takes_stored w Event is = takes_boolean w is
+takes_stored w _ is = takes_boolean w is
 
 pub delay_fits : (signals : List Signal) (y : SigId) (w k : Kind) (x : Operand) (init : ℤ) → kind_at signals y ≡ Some w → takes w (stored k) ≡ true
     → IsOperandOf signals k false x → IsValue Bounded (stored k) init → form_fits signals (Delay y (signal_in x) init) ≡ true
@@ -216,31 +191,22 @@ delay_fits signals y w k x init is takes_it operand value =
 -- functions of two operands
 pub integers : (a b : Kind) → accepts Integers a (Some b) ≡ true → (kind_is AnInteger a ≡ true) × (kind_is AnInteger b ≡ true)
 integers Integer Integer is = (refl, refl)
-integers Integer Boolean is = absurd (false≢true is)
-integers Integer Event is = absurd (false≢true is)
-integers Boolean b is = absurd (false≢true is)
-integers Event b is = absurd (false≢true is)
+integers _ _ is = absurd (false≢true is)
 
 pub truths : (a b : Kind) → accepts Truths a (Some b) ≡ true → (kind_is Truth a ≡ true) × (kind_is Truth b ≡ true)
 truths Integer b is = absurd (false≢true is)
 truths Boolean Integer is = absurd (false≢true is)
-truths Boolean Boolean is = (refl, refl)
-truths Boolean Event is = (refl, refl)
 truths Event Integer is = absurd (false≢true is)
-truths Event Boolean is = (refl, refl)
-truths Event Event is = (refl, refl)
+truths _ _ is = (refl, refl)
 
 pub alike : (a b : Kind) → accepts Alike a (Some b) ≡ true
     → ((kind_is AnInteger a ≡ true) × (kind_is AnInteger b ≡ true)) ⊎ ((kind_is Truth a ≡ true) × (kind_is Truth b ≡ true))
 alike Integer Integer is = inl (refl, refl)
-alike Integer Boolean is = absurd (false≢true is)
-alike Integer Event is = absurd (false≢true is)
-alike Boolean Integer is = absurd (false≢true is)
 alike Boolean Boolean is = inr (refl, refl)
 alike Boolean Event is = inr (refl, refl)
-alike Event Integer is = absurd (false≢true is)
 alike Event Boolean is = inr (refl, refl)
 alike Event Event is = inr (refl, refl)
+alike _ _ is = absurd (false≢true is)
 
 -- two operands, each of a kind
 pub record Pair (signals : List Signal) (a b : Kind) (u v : Operand) : Type 0 where
@@ -303,13 +269,11 @@ neg_fits signals y w k x b is takes_it integer operand =
 
 one_integer : (k : Kind) → accepts Integers k None ≡ true → kind_is AnInteger k ≡ true
 one_integer Integer is = refl
-one_integer Boolean is = absurd (false≢true is)
-one_integer Event is = absurd (false≢true is)
+one_integer _ is = absurd (false≢true is)
 
 pub one_truth : (k : Kind) → accepts Truths k None ≡ true → kind_is Truth k ≡ true
 one_truth Integer is = absurd (false≢true is)
-one_truth Boolean is = refl
-one_truth Event is = refl
+one_truth _ is = refl
 
 pub unary_fits : (signals : List Signal) (op : UnOp) (y : SigId) (w k : Kind) (x : Operand) → kind_at signals y ≡ Some w
     → takes w (kind_of_result (unary_row op).result k None) ≡ true → accepts (unary_row op).operands k None ≡ true
@@ -321,5 +285,4 @@ unary_fits signals Clock y w k x is takes_it accepted operand = event_fits signa
 
 pub second_truth : (a b : Kind) → accepts AnyThenTruth a (Some b) ≡ true → kind_is Truth b ≡ true
 second_truth a Integer is = absurd (false≢true is)
-second_truth a Boolean is = refl
-second_truth a Event is = refl
+second_truth a _ is = refl

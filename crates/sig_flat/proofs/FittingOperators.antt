@@ -1,7 +1,7 @@
 -- The equations of operators keep to the table of kinds. What is said of signals is said of the whole kernel's,
 -- which those made so far begin.
-use Rattle.sig_flat.proofs.Common.{◌≡◌, ◌++◌, ℕ, suc, ℤ, pos, Bool, true, false, List, [], ◌∷◌, length, Option, None, Some, refl, sym, ap, subst, ◌∙◌, append_assoc, if◌then◌else◌, ⊤, none-some, AllByRecursion, unwrap_or, Kind, Integer, Boolean, Event, SigId, Signal, Span, Bounded, IsPrefixOf, IsValue, kind_numbered, Allows, BinOp, Default as DefaultOf, When as Sampled, Plus, Meet, Less, Or as OrOf, Xor as XorOf, And as AndOf, Eq as EqOf, Ne as NeOf, Lt as LtOf, Le as LeOf, Gt as GtOf, Ge as GeOf, Add as AddOf, Sub as SubOf, Mul as MulOf, Div as DivOf, Mod as ModOf, FormRow, binary_row, accepts, kind_of_result, merged, unary_kind, binary_kind, stored, Alike, AnyThenTruth, Equation, Not, Operand, Sig, Form, Fun, Delay, WhenConst, Sync, EventOf, form_fits, Site, Made, Translated, signal_id, signal_in, with_equation, with_signal, with_own, with_clocks, with_clock_equations, by_one, own, next, binary_form, plus, meet, less, cell, all_added, one_longer}
-use Rattle.sig_kernel.specs.declared.equation.Form.TheVariants.{When, Default}
+use Rattle.sig_flat.proofs.Common.{◌≡◌, ◌++◌, ℕ, suc, ℤ, pos, Bool, true, false, List, [], ◌∷◌, length, Option, None, Some, refl, sym, ap, subst, ◌∙◌, append_assoc, if◌then◌else◌, ⊤, none-some, AllByRecursion, unwrap_or, Kind, Integer, Boolean, Event, SigId, Signal, Span, Bounded, IsPrefixOf, IsValue, kind_numbered, Allows, BinOp, Default as DefaultOf, When as Sampled, Plus, Meet, Less, Or as OrOf, Xor as XorOf, And as AndOf, Eq as EqOf, Ne as NeOf, Lt as LtOf, Le as LeOf, Gt as GtOf, Ge as GeOf, FormRow, binary_row, accepts, kind_of_result, merged, unary_kind, binary_kind, stored, Alike, AnyThenTruth, Equation, Not, Operand, Sig, Form, Fun, Delay, WhenConst, Sync, EventOf, form_fits, Site, Made, Translated, signal_id, signal_in, with_equation, with_signal, with_own, with_clocks, with_clock_equations, by_one, own, next, binary_form, less, cell, all_added, one_longer, clocked}
+use Rattle.sig_kernel.specs.declared.equation.Form.TheVariants.{Default}
 use Rattle.sig_kernel.specs.Table.{kind_at}
 use Rattle.sig_flat.proofs.AddedBehind.{Grows, own_grows}
 use Rattle.sig_flat.proofs.NumberedKinds.{kind_stays, kind_added, kind_in_kernel}
@@ -99,10 +99,9 @@ pub record TwoKinds (form : FormRow) (one two : Option Kind) (kind : Kind) : Typ
   pub result : kind_of_result form.result first (Some second) ≡ kind
 
 pub two_kinds : (form : FormRow) (one two : Option Kind) (kind : Kind) → binary_kind form one two ≡ Some kind → TwoKinds form one two kind
-two_kinds form None two kind is = absurd (none-some kind is)
-two_kinds form (Some first) None kind is = absurd (none-some kind is)
 two_kinds form (Some first) (Some second) kind is = let both = if_some (accepts form.operands first (Some second)) _ kind is in
     record { first = first; second = second; is = refl; also = refl; accepted = both.0; result = both.1 }
+two_kinds form _ _ kind is = absurd (none-some kind is)
 
 -- a signal's operand, where no constant stands
 pub signal_operand : {whole : List Signal} {kind : Kind} {constant : Bool} {o : Operand} → constant ≡ false → IsOperandOf whole kind constant o → IsOperandOf whole kind false o
@@ -130,11 +129,7 @@ binary_one whole LtOf y w a b u v c d is takes_it accepted allowed first second 
 binary_one whole LeOf y w a b u v c d is takes_it accepted allowed first second = comparison_fits whole _ y a b w u v refl is takes_it accepted (record { first_constant = c; second_constant = d; first = first; second = second })
 binary_one whole GtOf y w a b u v c d is takes_it accepted allowed first second = comparison_fits whole _ y a b w u v refl is takes_it accepted (record { first_constant = c; second_constant = d; first = first; second = second })
 binary_one whole GeOf y w a b u v c d is takes_it accepted allowed first second = comparison_fits whole _ y a b w u v refl is takes_it accepted (record { first_constant = c; second_constant = d; first = first; second = second })
-binary_one whole AddOf y w a b u v c d is takes_it accepted allowed first second = arithmetic_fits whole _ y a b w u v refl is takes_it accepted (record { first_constant = c; second_constant = d; first = first; second = second })
-binary_one whole SubOf y w a b u v c d is takes_it accepted allowed first second = arithmetic_fits whole _ y a b w u v refl is takes_it accepted (record { first_constant = c; second_constant = d; first = first; second = second })
-binary_one whole MulOf y w a b u v c d is takes_it accepted allowed first second = arithmetic_fits whole _ y a b w u v refl is takes_it accepted (record { first_constant = c; second_constant = d; first = first; second = second })
-binary_one whole DivOf y w a b u v c d is takes_it accepted allowed first second = arithmetic_fits whole _ y a b w u v refl is takes_it accepted (record { first_constant = c; second_constant = d; first = first; second = second })
-binary_one whole ModOf y w a b u v c d is takes_it accepted allowed first second = arithmetic_fits whole _ y a b w u v refl is takes_it accepted (record { first_constant = c; second_constant = d; first = first; second = second })
+binary_one whole _ y w a b u v c d is takes_it accepted allowed first second = arithmetic_fits whole _ y a b w u v refl is takes_it accepted (record { first_constant = c; second_constant = d; first = first; second = second })
 
 pub signal_grows : (site : Site) (kind : Kind) (at : Span) (made : Made) → Grows made (with_signal site kind at made)
 signal_grows site kind at made = record { more = _; is = refl }
@@ -163,36 +158,26 @@ clock_equations_fit whole at e a b u v made clocked all =
     (fit_added whole made at (EventOf (signal_id e) (signal_in u)) all (event_fits whole (signal_id e) Event a u clocked.e_is refl clocked.first))
     (event_fits whole (signal_id (suc e)) Event b v clocked.f_is refl clocked.second)
 
-clocked : (whole : List Signal) (site : Site) (at : Span) (a b : Kind) (u v : Operand) (made : Made) → IsPrefixOf (with_clocks site at made).signals whole
+clocked_kinds : (whole : List Signal) (site : Site) (at : Span) (a b : Kind) (u v : Operand) (made : Made) → IsPrefixOf (with_clocks site at made).signals whole
     → IsOperandOf whole a false u → IsOperandOf whole b false v → Clocked whole (next made) a b u v
-clocked whole site at a b u v made begins first second = record {
+clocked_kinds whole site at a b u v made begins first second = record {
   e_is = added_kind site Event at made whole (before (signal_grows site Event at (with_signal site Event at made)) begins);
   f_is = second_kind site Event Event at made whole begins;
   first = first;
   second = second;
 }
 
-pub plus_all : (whole : List Signal) (left : Option ℕ) (site : Site) (at : Span) (a b : Kind) (u v : Operand) (made : Made)
-    → IsPrefixOf (plus left site at u v made).made.signals whole → LeftTakes whole left Event → AllFit whole made
-    → IsOperandOf whole a false u → IsOperandOf whole b false v → AllFit whole (plus left site at u v made).made
-plus_all whole left site at a b u v made begins left_takes all first second =
+pub clocked_all : (whole : List Signal) (left : Option ℕ) (site : Site) (at : Span) (last : SigId → SigId → SigId → Form) (a b : Kind) (u v : Operand) (made : Made)
+    → ((y e f : SigId) (w : Kind) → kind_at whole y ≡ Some w → takes w Event ≡ true → kind_at whole e ≡ Some Event → kind_at whole f ≡ Some Event → form_fits whole (last y e f) ≡ true)
+    → IsPrefixOf (clocked left site at last u v made).made.signals whole → LeftTakes whole left Event → AllFit whole made
+    → IsOperandOf whole a false u → IsOperandOf whole b false v → AllFit whole (clocked left site at last u v made).made
+clocked_all whole left site at last a b u v made fits begins left_takes all first second =
     let clocks : Made = with_clocks site at made in
     let y = own_takes left site Event at clocks whole begins left_takes in
-    let c = clocked whole site at a b u v made (before (own_grows left site Event at clocks) begins) first second in
-    fit_added whole (with_clock_equations at (next made) u v (with_own left site Event at clocks)) at (Default (signal_id (own left clocks)) (signal_id (next made)) (signal_id (suc (next made))))
+    let c = clocked_kinds whole site at a b u v made (before (own_grows left site Event at clocks) begins) first second in
+    fit_added whole (with_clock_equations at (next made) u v (with_own left site Event at clocks)) at (last (signal_id (own left clocks)) (signal_id (next made)) (signal_id (suc (next made))))
     (clock_equations_fit whole at (next made) a b u v (with_own left site Event at clocks) c (all_own left site Event at clocks whole all))
-    (default_fits whole (signal_id (own left clocks)) y.wanted Event Event (Sig (signal_id (next made))) (Sig (signal_id (suc (next made)))) y.is refl y.takes_it (of_signal _ c.e_is) (of_signal _ c.f_is))
-
-pub meet_all : (whole : List Signal) (left : Option ℕ) (site : Site) (at : Span) (a b : Kind) (u v : Operand) (made : Made)
-    → IsPrefixOf (meet left site at u v made).made.signals whole → LeftTakes whole left Event → AllFit whole made
-    → IsOperandOf whole a false u → IsOperandOf whole b false v → AllFit whole (meet left site at u v made).made
-meet_all whole left site at a b u v made begins left_takes all first second =
-    let clocks : Made = with_clocks site at made in
-    let y = own_takes left site Event at clocks whole begins left_takes in
-    let c = clocked whole site at a b u v made (before (own_grows left site Event at clocks) begins) first second in
-    fit_added whole (with_clock_equations at (next made) u v (with_own left site Event at clocks)) at (When (signal_id (own left clocks)) (signal_id (next made)) (signal_id (suc (next made))))
-    (clock_equations_fit whole at (next made) a b u v (with_own left site Event at clocks) c (all_own left site Event at clocks whole all))
-    (when_fits whole (signal_id (own left clocks)) y.wanted Event Event (Sig (signal_id (next made))) (Sig (signal_id (suc (next made)))) y.is y.takes_it refl (of_signal _ c.e_is) (of_signal _ c.f_is))
+    (fits (signal_id (own left clocks)) (signal_id (next made)) (signal_id (suc (next made))) y.wanted y.is y.takes_it c.e_is c.f_is)
 
 pub less_all : (whole : List Signal) (left : Option ℕ) (site : Site) (at : Span) (a b : Kind) (u v : Operand) (made : Made)
     → IsPrefixOf (less left site at u v made).made.signals whole → LeftTakes whole left Event → AllFit whole made
@@ -207,7 +192,7 @@ less_all whole left site at a b u v made begins left_takes all first second =
     let begins_z = before (signal_grows site Boolean at (with_signal site Boolean at clocks)) begins_truths in
     let z_is = added_kind site Boolean at clocks whole begins_z in
     let w_is = second_kind site Boolean Boolean at clocks whole begins_truths in
-    let c = clocked whole site at a b u v made (before (signal_grows site Boolean at clocks) begins_z) first second in
+    let c = clocked_kinds whole site at a b u v made (before (signal_grows site Boolean at clocks) begins_z) first second in
     let clock_equations : Made = with_clock_equations at (next made) u v made_own in
     let negated : Form = Fun (signal_id z) Not (Sig (signal_id (suc (next made))) ∷ []) in
     let chosen : Form = Default (signal_id (suc z)) (signal_id z) (signal_id (next made)) in
@@ -222,18 +207,15 @@ less_all whole left site at a b u v made begins left_takes all first second =
 -- what is kept and what it is merged with
 kept_alike : (k : Kind) → accepts Alike k (Some (stored k)) ≡ true
 kept_alike Integer = refl
-kept_alike Boolean = refl
-kept_alike Event = refl
+kept_alike _ = refl
 
 kept_merged : (k : Kind) → merged k (stored k) ≡ stored k
 kept_merged Integer = refl
-kept_merged Boolean = refl
-kept_merged Event = refl
+kept_merged _ = refl
 
 stored_stored : (k : Kind) → stored (stored k) ≡ stored k
 stored_stored Integer = refl
-stored_stored Boolean = refl
-stored_stored Event = refl
+stored_stored _ = refl
 
 third_kind : (site : Site) (first second third : Kind) (at : Span) (made : Made) (whole : List Signal)
     → IsPrefixOf (with_signal site third at (with_signal site second at (with_signal site first at made))).signals whole → kind_at whole (signal_id (suc (suc (length made.signals)))) ≡ Some third

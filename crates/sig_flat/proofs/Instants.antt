@@ -29,15 +29,10 @@ last_behind init None values = refl
 last_behind init (Some v) values = refl
 
 form_behind : (now : Instant) (past : Trace) (later : Instant) (form : Form) → Meets Bounded (remembered (now ∷ past)) later form ↔ Meets Bounded (remembered past) later (behind_form now form)
-form_behind now past later (Fun y op operands) = (λ h. h, λ h. h)
 form_behind now past later (Delay y x init) =
     let same : last_of init (flow_of x.0 (now ∷ past)) ≡ last_of (kept init (seen_at now x.0)) (flow_of x.0 past) = last_behind init (seen_at now x.0) (flow_of x.0 past) in
     (λ h. h ∙ ap (where_present (seen_at later x.0)) same, λ h. h ∙ ap (where_present (seen_at later x.0)) (sym same))
-form_behind now past later (When y x b) = (λ h. h, λ h. h)
-form_behind now past later (WhenConst y constant b) = (λ h. h, λ h. h)
-form_behind now past later (Default y u v) = (λ h. h, λ h. h)
-form_behind now past later (Sync x y) = (λ h. h, λ h. h)
-form_behind now past later (EventOf y x) = (λ h. h, λ h. h)
+form_behind now past later _ = (λ h. h, λ h. h)
 
 meet_behind : (now : Instant) (past : Trace) (later : Instant) (qs : List Equation) → MeetAll (remembered (now ∷ past)) later qs → MeetAll (remembered past) later (behind_equations now qs)
 meet_behind now past later [] h = h

@@ -1,5 +1,5 @@
 -- What holds of each signal that an operator adds to a kernel, and at the place of each equation, holds of all of them.
-use Rattle.sig_flat.proofs.Common.{ℕ, ℤ, List, [], ◌∷◌, Option, None, Some, AllByRecursion, Kind, Boolean, Event, SigId, Signal, Span, placed_name, AtOperators, BinOp, Default as DefaultOf, When as Sampled, Plus, Meet, Less, Or as OrOf, Xor as XorOf, And as AndOf, Eq as EqOf, Ne as NeOf, Lt as LtOf, Le as LeOf, Gt as GtOf, Ge as GeOf, Add as AddOf, Sub as SubOf, Mul as MulOf, Div as DivOf, Mod as ModOf, FlatExpression, SigOf, Const as ConstOf, Unary, Binary, DelayOf, Cell, FlatEquation, Defines, Equal, Equation, Form, Delay, Operand, unary_row, binary_row, kind_of_result, stored, Site, Made, Translated, Together, next, with_signal, with_own, with_clocks, with_clock_equations, with_equation, by_one, unary_form, signal_in, binary, binary_form, cell, cluster_at, place_of, translate, operands_from, with_syncs, with_all_syncs, with_flat_equation, with_flat_equations, all_added}
+use Rattle.sig_flat.proofs.Common.{ℕ, ℤ, List, [], ◌∷◌, Option, None, Some, AllByRecursion, Kind, Boolean, Event, SigId, Signal, Span, placed_name, AtOperators, BinOp, Plus, Meet, Less, FlatExpression, SigOf, Const as ConstOf, Unary, Binary, DelayOf, Cell, FlatEquation, Defines, Equal, Equation, Form, Delay, Operand, unary_row, binary_row, kind_of_result, stored, Site, Made, Translated, Together, next, with_signal, with_own, with_clocks, with_clock_equations, with_equation, by_one, unary_form, signal_in, binary, binary_form, cell, cluster_at, place_of, translate, operands_from, with_syncs, with_all_syncs, with_flat_equation, with_flat_equations, all_added}
 
 -- of what was made so far: this of each signal, and that at the place of each equation
 pub record Kept (OfSignal : Signal → Type 0) (Holds : Span → Type 0) (made : Made) : Type 0 where
@@ -61,25 +61,10 @@ module _ (OfSignal : Signal → Type 0) (Holds : Span → Type 0) (At : List ℕ
       record { signals = begun.signals; equations = all_added P _ _ (all_added P _ _ (all_added P _ _ begun.equations held) held) held }
 
   binary_kept : (left : Option ℕ) (site : Site) (op : BinOp) (at : Span) (u v : Translated) → At site.prefix at → Kept OfSignal Holds v.made → Kept OfSignal Holds (binary left site op at u v).made
+  binary_kept left site Less at u v h kept = less_kept left site at u v h kept
   binary_kept left site Plus at u v h kept = joined_kept left site at u.operand v.operand _ v.made h kept
   binary_kept left site Meet at u v h kept = joined_kept left site at u.operand v.operand _ v.made h kept
-  binary_kept left site Less at u v h kept = less_kept left site at u v h kept
-  binary_kept left site DefaultOf at u v h kept = one_kept left site (result_of DefaultOf u v) at (binary_form DefaultOf u.operand v.operand) v.made h kept
-  binary_kept left site Sampled at u v h kept = one_kept left site (result_of Sampled u v) at (binary_form Sampled u.operand v.operand) v.made h kept
-  binary_kept left site OrOf at u v h kept = one_kept left site (result_of OrOf u v) at (binary_form OrOf u.operand v.operand) v.made h kept
-  binary_kept left site XorOf at u v h kept = one_kept left site (result_of XorOf u v) at (binary_form XorOf u.operand v.operand) v.made h kept
-  binary_kept left site AndOf at u v h kept = one_kept left site (result_of AndOf u v) at (binary_form AndOf u.operand v.operand) v.made h kept
-  binary_kept left site EqOf at u v h kept = one_kept left site (result_of EqOf u v) at (binary_form EqOf u.operand v.operand) v.made h kept
-  binary_kept left site NeOf at u v h kept = one_kept left site (result_of NeOf u v) at (binary_form NeOf u.operand v.operand) v.made h kept
-  binary_kept left site LtOf at u v h kept = one_kept left site (result_of LtOf u v) at (binary_form LtOf u.operand v.operand) v.made h kept
-  binary_kept left site LeOf at u v h kept = one_kept left site (result_of LeOf u v) at (binary_form LeOf u.operand v.operand) v.made h kept
-  binary_kept left site GtOf at u v h kept = one_kept left site (result_of GtOf u v) at (binary_form GtOf u.operand v.operand) v.made h kept
-  binary_kept left site GeOf at u v h kept = one_kept left site (result_of GeOf u v) at (binary_form GeOf u.operand v.operand) v.made h kept
-  binary_kept left site AddOf at u v h kept = one_kept left site (result_of AddOf u v) at (binary_form AddOf u.operand v.operand) v.made h kept
-  binary_kept left site SubOf at u v h kept = one_kept left site (result_of SubOf u v) at (binary_form SubOf u.operand v.operand) v.made h kept
-  binary_kept left site MulOf at u v h kept = one_kept left site (result_of MulOf u v) at (binary_form MulOf u.operand v.operand) v.made h kept
-  binary_kept left site DivOf at u v h kept = one_kept left site (result_of DivOf u v) at (binary_form DivOf u.operand v.operand) v.made h kept
-  binary_kept left site ModOf at u v h kept = one_kept left site (result_of ModOf u v) at (binary_form ModOf u.operand v.operand) v.made h kept
+  binary_kept left site op at u v h kept = one_kept left site (result_of op u v) at (binary_form op u.operand v.operand) v.made h kept
 
   cell_kept : (left : Option ℕ) (site : Site) (init : ℤ) (at : Span) (x b : Translated) → At site.prefix at → Kept OfSignal Holds b.made → Kept OfSignal Holds (cell left site init at x b).made
   cell_kept left site init at x b h kept =
@@ -96,8 +81,6 @@ module _ (OfSignal : Signal → Type 0) (Holds : Span → Type 0) (At : List ℕ
 
   -- an operand, and a whole right side
   operand_kept : (site : Site) (e : FlatExpression) (made : Made) → AtOperators (At site.prefix) e → Kept OfSignal Holds made → Kept OfSignal Holds (translate None site e made).made
-  operand_kept site (SigOf number at) made h kept = kept
-  operand_kept site (ConstOf value kind at) made h kept = kept
   operand_kept site (Unary op operand at) made h kept =
       let x : Translated = translate None site operand made in
       one_kept None site (kind_of_result (unary_row op).result x.kind None) at (unary_form op x.operand) x.made h.0 (operand_kept site operand made h.1 kept)
@@ -110,6 +93,7 @@ module _ (OfSignal : Signal → Type 0) (Holds : Span → Type 0) (At : List ℕ
   operand_kept site (Cell operand held init at) made h kept =
       let x : Translated = translate None site operand made in
       cell_kept None site init at x (translate None site held x.made) h.0 (operand_kept site held x.made h.2 (operand_kept site operand made h.1 kept))
+  operand_kept site _ made h kept = kept
 
   right_kept : (left : ℕ) (site : Site) (e : FlatExpression) (made : Made) → Holds (place_of e) → AtOperators (At site.prefix) e → Kept OfSignal Holds made → Kept OfSignal Holds (translate (Some left) site e made).made
   right_kept left site (SigOf number at) made whole h kept = equation_kept at _ made whole kept

@@ -20,10 +20,9 @@ unary_kinds row (Some first) kind e = let c = chosen (accepts row.operands first
 
 pub binary_kinds : (row : FormRow) (left right : Option Kind) (kind : Kind) → binary_kind row left right ≡ Some kind
     → (first second : Kind) × (left ≡ Some first) × (right ≡ Some second) × (accepts row.operands first (Some second) ≡ true) × (kind_of_result row.result first (Some second) ≡ kind)
-binary_kinds row None right kind e = absurd cc
-binary_kinds row (Some first) None kind e = absurd cc
 binary_kinds row (Some first) (Some second) kind e =
     let c = chosen (accepts row.operands first (Some second)) (kind_of_result row.result first (Some second)) kind e in (first, second, refl, refl, c.0, c.1)
+binary_kinds row _ _ kind e = absurd cc
 
 -- functions
 tells_truth : (v : ℤ) (S : Type 0) → Tells v S → IsValue Bounded Boolean v
@@ -42,15 +41,13 @@ one_kind f kind gives (Signal (Some a)) v h = subst (λ (s : Seen). IsOfKind Bou
 one_kind f kind gives (Constant c) v h = absurd h
 
 two_kind : (f : Function) (kind : Kind) → GivesTwo f kind → (x y : Found) (v : Seen) → AppliesToBoth f x y v → IsOfKind Bounded kind v
-two_kind f kind gives (Signal None) (Signal None) v h = subst (λ (s : Seen). IsOfKind Bounded kind s) (sym h) tt
 two_kind f kind gives (Signal None) (Signal (Some b)) v h = absurd h
-two_kind f kind gives (Signal None) (Constant d) v h = subst (λ (s : Seen). IsOfKind Bounded kind s) (sym h) tt
 two_kind f kind gives (Signal (Some a)) (Signal None) v h = absurd h
 two_kind f kind gives (Signal (Some a)) (Signal (Some b)) v h = subst (λ (s : Seen). IsOfKind Bounded kind s) (sym h.1) (gives a b h.0 h.2 h.3)
 two_kind f kind gives (Signal (Some a)) (Constant d) v h = subst (λ (s : Seen). IsOfKind Bounded kind s) (sym h.1) (gives a d h.0 h.2 h.3)
-two_kind f kind gives (Constant c) (Signal None) v h = subst (λ (s : Seen). IsOfKind Bounded kind s) (sym h) tt
 two_kind f kind gives (Constant c) (Signal (Some b)) v h = subst (λ (s : Seen). IsOfKind Bounded kind s) (sym h.1) (gives c b h.0 h.2 h.3)
 two_kind f kind gives (Constant c) (Constant d) v h = absurd h
+two_kind f kind gives _ _ v h = subst (λ (s : Seen). IsOfKind Bounded kind s) (sym h) tt
 
 -- an event where a test passes
 pub sampled_kind : (kind : Kind) (x b : Seen) → IsOfKind Bounded kind x → IsOfKind Bounded kind (sampled x b)
@@ -80,27 +77,21 @@ event_truth None h = tt
 event_truth (Some v) h = inr h
 
 first_kind : (first second : Kind) (s : Seen) → accepts Alike first (Some second) ≡ true → IsOfKind Bounded first s → IsOfKind Bounded (merged_kind first second) s
-first_kind Integer second s e h = h
-first_kind Boolean second s e h = h
-first_kind Event Event s e h = h
 first_kind Event Boolean s e h = event_truth s h
 first_kind Event Integer s e h = absurd cc
+first_kind _ _ s e h = h
 
 second_kind : (first second : Kind) (s : Seen) → accepts Alike first (Some second) ≡ true → IsOfKind Bounded second s → IsOfKind Bounded (merged_kind first second) s
-second_kind Integer Integer s e h = h
 second_kind Integer Boolean s e h = absurd cc
 second_kind Integer Event s e h = absurd cc
 second_kind Boolean Integer s e h = absurd cc
-second_kind Boolean Boolean s e h = h
 second_kind Boolean Event s e h = event_truth s h
 second_kind Event Integer s e h = absurd cc
-second_kind Event Boolean s e h = h
-second_kind Event Event s e h = h
+second_kind _ _ s e h = h
 
 pub stored_kind : (kind : Kind) (s : Seen) → IsOfKind Bounded kind s → IsOfKind Bounded (stored kind) s
-stored_kind Integer s h = h
-stored_kind Boolean s h = h
 stored_kind Event s h = event_truth s h
+stored_kind _ s h = h
 
 pub delayed_kind : (kind : Kind) (init : ℤ) (x : Seen) → IsValue Bounded kind init → IsOfKind Bounded kind (delayed init x)
 delayed_kind kind init None h = tt
@@ -118,29 +109,18 @@ pub changes_kind : (op : UnOp) (first : Kind) (x : Found) (v : Seen) → Changes
 changes_kind NotOf first x v h = one_kind FunctionNot Boolean (λ a w g fits. tells_truth w _ g) x v h
 changes_kind NegOf first x v h = one_kind Negative Integer (λ a w g fits. fits) x v h
 changes_kind WhenOf first (Signal b) v h = subst (λ (s : Seen). IsOfKind Bounded Event s) (sym h) (sampled_kind Event (Some (pos 1)) b refl)
-changes_kind WhenOf first (Constant c) v h = absurd h
 changes_kind Clock first (Signal x) v h = subst (λ (s : Seen). IsOfKind Bounded Event s) (sym h) (clock_kind x)
-changes_kind Clock first (Constant c) v h = absurd h
+changes_kind _ first (Constant c) v h = absurd h
 
 pub combines_kind : (op : BinOp) (first second : Kind) (x y : Found) (v : Seen) → accepts (binary_row op).operands first (Some second) ≡ true
     → HasKind first x → HasKind second y → Combines op x y v → IsOfKind Bounded (kind_of_result (binary_row op).result first (Some second)) v
 combines_kind DefaultOf first second (Signal u) (Signal w) v e h k c =
     subst (λ (s : Seen). IsOfKind Bounded (merged_kind first second) s) (sym c) (or_kind (merged_kind first second) u w (first_kind first second u e h) (second_kind first second w e k))
-combines_kind DefaultOf first second (Signal u) (Constant d) v e h k c = absurd c
-combines_kind DefaultOf first second (Constant d) y v e h k c = absurd c
 combines_kind Sampled first second (Signal u) (Signal b) v e h k c = subst (λ (s : Seen). IsOfKind Bounded first s) (sym c) (sampled_kind first u b h)
 combines_kind Sampled first second (Constant d) (Signal b) v e h k c = subst (λ (s : Seen). IsOfKind Bounded first s) (sym c) (sampled_kind first (Some d) b h)
-combines_kind Sampled first second (Signal u) (Constant d) v e h k c = absurd c
-combines_kind Sampled first second (Constant u) (Constant d) v e h k c = absurd c
 combines_kind Plus first second (Signal u) (Signal w) v e h k c = subst (λ (s : Seen). IsOfKind Bounded Event s) (sym c) (or_kind Event (clock_of u) (clock_of w) (clock_kind u) (clock_kind w))
-combines_kind Plus first second (Signal u) (Constant d) v e h k c = absurd c
-combines_kind Plus first second (Constant d) y v e h k c = absurd c
 combines_kind Meet first second (Signal u) (Signal w) v e h k c = subst (λ (s : Seen). IsOfKind Bounded Event s) (sym c) (both_kind u w)
-combines_kind Meet first second (Signal u) (Constant d) v e h k c = absurd c
-combines_kind Meet first second (Constant d) y v e h k c = absurd c
 combines_kind Less first second (Signal u) (Signal w) v e h k c = subst (λ (s : Seen). IsOfKind Bounded Event s) (sym c) (without_kind u w)
-combines_kind Less first second (Signal u) (Constant d) v e h k c = absurd c
-combines_kind Less first second (Constant d) y v e h k c = absurd c
 combines_kind OrOf first second x y v e h k c = two_kind FunctionOr Boolean (λ a b w g fits. tells_truth w _ g) x y v c
 combines_kind XorOf first second x y v e h k c = two_kind FunctionXor Boolean (λ a b w g fits. tells_truth w _ g) x y v c
 combines_kind AndOf first second x y v e h k c = two_kind FunctionAnd Boolean (λ a b w g fits. tells_truth w _ g) x y v c
@@ -155,6 +135,7 @@ combines_kind SubOf first second x y v e h k c = two_kind Difference Integer (λ
 combines_kind MulOf first second x y v e h k c = two_kind Product Integer (λ a b w g fits. fits) x y v c
 combines_kind DivOf first second x y v e h k c = two_kind Quotient Integer (λ a b w g fits. fits) x y v c
 combines_kind ModOf first second x y v e h k c = two_kind Remainder Integer (λ a b w g fits. fits) x y v c
+combines_kind _ first second _ _ v e h k c = absurd c
 
 -- an init is of the kind that is kept of its operand
 pub init_kind : (signals : List Declared) (e : FlatExpression) (first : Kind) (init : ℤ) → flat_kind signals e ≡ Some first → MayBegin signals e init → IsValue Bounded (stored first) init
@@ -192,8 +173,6 @@ may_begin_behind : (signals : List Declared) (now : Instant) → Suits signals n
 may_begin_behind signals now suits e after init v same of h = (h.0, same ∙ h.1, kept_kind (stored h.0) init v h.2 (of h.0 h.1))
 
 pub stays_made : (signals : List Declared) (now : Instant) → Suits signals now → (e : FlatExpression) (o : Found) (after : FlatExpression) → IsMade signals e → Steps e now o after → StaysMade signals e after
-stays_made signals now suits (SigOf number at) o after h a = subst (λ n. StaysMade signals (SigOf number at) n) (sym a.1) (record { made = h; kind = refl; constant = refl; place = refl })
-stays_made signals now suits (ConstOf value of at) o after h a = subst (λ n. StaysMade signals (ConstOf value of at) n) (sym a.1) (record { made = h; kind = refl; constant = refl; place = refl })
 stays_made signals now suits (Unary op operand at) o after h a =
     let r = stays_made signals now suits operand a.0 a.1 h.1 a.2 in
     subst (λ n. StaysMade signals (Unary op operand at) n) (sym a.6)
@@ -240,6 +219,7 @@ stays_made signals now suits (Cell operand held init at) o after h a =
       constant = refl;
       place = refl;
     })
+stays_made signals now suits e o after h a = subst (λ n. StaysMade signals e n) (sym a.1) (record { made = h; kind = refl; constant = refl; place = refl })
 
 -- an expression is the same at instants that agree on the signals that it names
 pub steps_same : (signals : List Declared) (e : FlatExpression) → IsMade signals e → (a b : Instant) → Agree (length signals) a b → (o : Found) (after : FlatExpression) → Steps e a o after → Steps e b o after

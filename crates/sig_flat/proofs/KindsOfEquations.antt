@@ -1,10 +1,11 @@
 -- The equations of the kernel of a well-made flat body keep to the table of kinds. What is said of signals is
 -- said of the whole kernel's, which those made so far begin.
-use Rattle.sig_flat.proofs.Common.{◌≡◌, ◌++◌, ◌&&◌, ℕ, ℤ, Bool, true, false, List, [], ◌∷◌, length, Option, None, Some, refl, sym, ap, subst, ◌∙◌, append_assoc, append-nil, AllPass-from_list_all, AllByRecursion, AllPass, list_all, unwrap_or, Kind, Integer, Boolean, Event, SigId, Signal, Span, Bounded, IsPrefixOf, IsValue, kind_numbered, flat_kind, is_constant, Allows, MayBegin, IsMade, IsWhole, IsMadeEquation, UnOp, BinOp, Default as DefaultOf, When as Sampled, Plus, Meet, Less, Or as OrOf, Xor as XorOf, And as AndOf, Eq as EqOf, Ne as NeOf, Lt as LtOf, Le as LeOf, Gt as GtOf, Ge as GeOf, Add as AddOf, Sub as SubOf, Mul as MulOf, Div as DivOf, Mod as ModOf, FlatExpression, SigOf, Const as ConstOf, Unary, Binary, DelayOf, Cell, FlatEquation, Defines, Equal, FlatBody, FormRow, unary_row, binary_row, cell_row, delay_row, accepts, kind_of_result, merged, stored, Equation, Id, Sig, Fun, Delay, Sync, form_fits, Site, Made, Translated, Together, signal_id, signal_in, with_equation, with_signal, with_own, with_clocks, by_one, unary_form, binary_form, cluster_at, binary, cell, translate, operands_from, with_syncs, with_all_syncs, with_flat_equation, with_flat_equations, made_of, kernel_of}
+use Rattle.sig_flat.proofs.Common.{◌≡◌, ◌++◌, ◌&&◌, ℕ, ℤ, Bool, true, false, List, [], ◌∷◌, length, Option, None, Some, refl, sym, ap, subst, ◌∙◌, append_assoc, append-nil, AllPass-from_list_all, AllByRecursion, AllPass, list_all, unwrap_or, Kind, Boolean, Event, SigId, Signal, Span, Bounded, IsPrefixOf, IsValue, kind_numbered, flat_kind, is_constant, Allows, MayBegin, IsMade, IsWhole, IsMadeEquation, UnOp, BinOp, Plus, Meet, Less, FlatExpression, SigOf, Const as ConstOf, Unary, Binary, DelayOf, Cell, FlatEquation, Defines, Equal, FlatBody, FormRow, unary_row, binary_row, cell_row, delay_row, accepts, kind_of_result, stored, Equation, Id, Sig, Fun, Delay, Sync, form_fits, Site, Made, Translated, Together, signal_id, signal_in, with_equation, with_signal, with_own, with_clocks, by_one, unary_form, binary_form, cluster_at, binary, cell, translate, operands_from, with_syncs, with_all_syncs, with_flat_equation, with_flat_equations, made_of, kernel_of}
+use Rattle.sig_kernel.specs.declared.equation.Form.TheVariants.{When, Default}
 use Rattle.sig_flat.proofs.AddedBehind.{Grows, translate_grows, binary_grows, cell_grows, operands_grow, all_syncs_grow, equation_grows, equations_grow}
 use Rattle.sig_flat.proofs.NumberedKinds.{kind_stays, kind_as_made}
-use Rattle.sig_flat.proofs.FittingForms.{IsOperandOf, of_signal, of_constant, taken, unary_fits, id_fits, delay_fits}
-use Rattle.sig_flat.proofs.FittingOperators.{before, kind_in_whole, added_kind, LeftTakes, AllFit, fit_added, one_fits, Translates, own_translates, one_kind, two_kinds, signal_operand, binary_one, signal_grows, plus_all, meet_all, less_all, cell_all}
+use Rattle.sig_flat.proofs.FittingForms.{IsOperandOf, of_signal, of_constant, taken, unary_fits, id_fits, delay_fits, when_fits, default_fits}
+use Rattle.sig_flat.proofs.FittingOperators.{before, kind_in_whole, added_kind, LeftTakes, AllFit, fit_added, one_fits, Translates, own_translates, one_kind, two_kinds, signal_operand, binary_one, signal_grows, clocked_all, less_all, cell_all}
 
 -- beginnings of beginnings
 pub through : (a b c : List Signal) → IsPrefixOf a b → IsPrefixOf b c → IsPrefixOf a c
@@ -62,55 +63,28 @@ binary_all : (whole : List Signal) (left : Option ℕ) (site : Site) (op : BinOp
     → IsPrefixOf (binary left site op at u v).made.signals whole → LeftTakes whole left (kind_of_result (binary_row op).result u.kind (Some v.kind))
     → Operands whole (binary_row op) c d u v → AllFit whole (binary left site op at u v).made
 binary_all whole left site Plus at c d u v begins left_takes os =
-    plus_all whole left site at u.kind v.kind u.operand v.operand v.made begins left_takes os.all (signal_operand os.allowed.0 os.first) (signal_operand os.allowed.1 os.second)
+    clocked_all whole left site at Default u.kind v.kind u.operand v.operand v.made
+    (λ y e f w is takes_it first second. default_fits whole y w Event Event (Sig e) (Sig f) is refl takes_it (of_signal e first) (of_signal f second)) begins left_takes os.all (signal_operand os.allowed.0 os.first) (signal_operand os.allowed.1 os.second)
 binary_all whole left site Meet at c d u v begins left_takes os =
-    meet_all whole left site at u.kind v.kind u.operand v.operand v.made begins left_takes os.all (signal_operand os.allowed.0 os.first) (signal_operand os.allowed.1 os.second)
+    clocked_all whole left site at When u.kind v.kind u.operand v.operand v.made
+    (λ y e f w is takes_it first second. when_fits whole y w Event Event (Sig e) (Sig f) is takes_it refl (of_signal e first) (of_signal f second)) begins left_takes os.all (signal_operand os.allowed.0 os.first) (signal_operand os.allowed.1 os.second)
 binary_all whole left site Less at c d u v begins left_takes os =
     less_all whole left site at u.kind v.kind u.operand v.operand v.made begins left_takes os.all (signal_operand os.allowed.0 os.first) (signal_operand os.allowed.1 os.second)
-binary_all whole left site DefaultOf at c d u v begins left_takes os = simple_all whole left site DefaultOf at c d u v begins left_takes os
-binary_all whole left site Sampled at c d u v begins left_takes os = simple_all whole left site Sampled at c d u v begins left_takes os
-binary_all whole left site OrOf at c d u v begins left_takes os = simple_all whole left site OrOf at c d u v begins left_takes os
-binary_all whole left site XorOf at c d u v begins left_takes os = simple_all whole left site XorOf at c d u v begins left_takes os
-binary_all whole left site AndOf at c d u v begins left_takes os = simple_all whole left site AndOf at c d u v begins left_takes os
-binary_all whole left site EqOf at c d u v begins left_takes os = simple_all whole left site EqOf at c d u v begins left_takes os
-binary_all whole left site NeOf at c d u v begins left_takes os = simple_all whole left site NeOf at c d u v begins left_takes os
-binary_all whole left site LtOf at c d u v begins left_takes os = simple_all whole left site LtOf at c d u v begins left_takes os
-binary_all whole left site LeOf at c d u v begins left_takes os = simple_all whole left site LeOf at c d u v begins left_takes os
-binary_all whole left site GtOf at c d u v begins left_takes os = simple_all whole left site GtOf at c d u v begins left_takes os
-binary_all whole left site GeOf at c d u v begins left_takes os = simple_all whole left site GeOf at c d u v begins left_takes os
-binary_all whole left site AddOf at c d u v begins left_takes os = simple_all whole left site AddOf at c d u v begins left_takes os
-binary_all whole left site SubOf at c d u v begins left_takes os = simple_all whole left site SubOf at c d u v begins left_takes os
-binary_all whole left site MulOf at c d u v begins left_takes os = simple_all whole left site MulOf at c d u v begins left_takes os
-binary_all whole left site DivOf at c d u v begins left_takes os = simple_all whole left site DivOf at c d u v begins left_takes os
-binary_all whole left site ModOf at c d u v begins left_takes os = simple_all whole left site ModOf at c d u v begins left_takes os
+binary_all whole left site op at c d u v begins left_takes os = simple_all whole left site op at c d u v begins left_takes os
 
 -- the signal of an operator of two operands that defines none
 binary_operand : (whole : List Signal) (site : Site) (op : BinOp) (at : Span) (u v : Translated) → IsPrefixOf (binary None site op at u v).made.signals whole
     → AllFit whole (binary None site op at u v).made
     → Translates whole (kind_of_result (binary_row op).result u.kind (Some v.kind)) false (binary None site op at u v)
-binary_operand whole site Plus at u v begins all = record { all = all; kinded = refl; operand = of_signal _ (added_kind site Event at (with_clocks site at v.made) whole begins) }
-binary_operand whole site Meet at u v begins all = record { all = all; kinded = refl; operand = of_signal _ (added_kind site Event at (with_clocks site at v.made) whole begins) }
 binary_operand whole site Less at u v begins all = record {
   all = all;
   kinded = refl;
   operand = of_signal _ (added_kind site Event at (with_signal site Boolean at (with_signal site Boolean at (with_clocks site at v.made))) whole begins);
 }
-binary_operand whole site DefaultOf at u v begins all = own_translates whole site (merged u.kind v.kind) at (binary_form DefaultOf u.operand v.operand) v.made begins all
-binary_operand whole site Sampled at u v begins all = own_translates whole site u.kind at (binary_form Sampled u.operand v.operand) v.made begins all
-binary_operand whole site OrOf at u v begins all = own_translates whole site Boolean at (binary_form OrOf u.operand v.operand) v.made begins all
-binary_operand whole site XorOf at u v begins all = own_translates whole site Boolean at (binary_form XorOf u.operand v.operand) v.made begins all
-binary_operand whole site AndOf at u v begins all = own_translates whole site Boolean at (binary_form AndOf u.operand v.operand) v.made begins all
-binary_operand whole site EqOf at u v begins all = own_translates whole site Boolean at (binary_form EqOf u.operand v.operand) v.made begins all
-binary_operand whole site NeOf at u v begins all = own_translates whole site Boolean at (binary_form NeOf u.operand v.operand) v.made begins all
-binary_operand whole site LtOf at u v begins all = own_translates whole site Boolean at (binary_form LtOf u.operand v.operand) v.made begins all
-binary_operand whole site LeOf at u v begins all = own_translates whole site Boolean at (binary_form LeOf u.operand v.operand) v.made begins all
-binary_operand whole site GtOf at u v begins all = own_translates whole site Boolean at (binary_form GtOf u.operand v.operand) v.made begins all
-binary_operand whole site GeOf at u v begins all = own_translates whole site Boolean at (binary_form GeOf u.operand v.operand) v.made begins all
-binary_operand whole site AddOf at u v begins all = own_translates whole site Integer at (binary_form AddOf u.operand v.operand) v.made begins all
-binary_operand whole site SubOf at u v begins all = own_translates whole site Integer at (binary_form SubOf u.operand v.operand) v.made begins all
-binary_operand whole site MulOf at u v begins all = own_translates whole site Integer at (binary_form MulOf u.operand v.operand) v.made begins all
-binary_operand whole site DivOf at u v begins all = own_translates whole site Integer at (binary_form DivOf u.operand v.operand) v.made begins all
-binary_operand whole site ModOf at u v begins all = own_translates whole site Integer at (binary_form ModOf u.operand v.operand) v.made begins all
+binary_operand whole site Plus at u v begins all = record { all = all; kinded = refl; operand = of_signal _ (added_kind site Event at (with_clocks site at v.made) whole begins) }
+binary_operand whole site Meet at u v begins all = record { all = all; kinded = refl; operand = of_signal _ (added_kind site Event at (with_clocks site at v.made) whole begins) }
+binary_operand whole site op at u v begins all =
+    own_translates whole site (kind_of_result (binary_row op).result u.kind (Some v.kind)) at (binary_form op u.operand v.operand) v.made begins all
 
 -- the signal of a `cell` that defines none
 cell_operand : (whole : List Signal) (site : Site) (init : ℤ) (at : Span) (x b : Translated) → IsPrefixOf (cell None site init at x b).made.signals whole

@@ -1,5 +1,5 @@
 -- What an instant that meets the equations of an expression makes of the expression.
-use Rattle.sig_flat.proofs.Common.{◌≡◌, ◌↔◌, ◌&&◌, ◌||◌, ℕ, suc, ℤ, pos, true, false, List, [], ◌∷◌, Option, None, Some, map, refl, sym, ap, subst, ◌∙◌, Kind, Boolean, Event, SigId, Signal as Declared, Span, Identity, Seen, Instant, Bounded, seen_at, Memory, Meets, is_signal, Form, Fun, Delay, WhenConst, Sync, EventOf, Id, Not, Operand, Sig, UnOp, NotOf, Neg as NegOf, WhenOf, Clock, BinOp, Default as DefaultOf, When as Sampled, Plus, Meet, Less, Or as OrOf, Xor as XorOf, And as AndOf, Eq as EqOf, Ne as NeOf, Lt as LtOf, Le as LeOf, Gt as GtOf, Ge as GeOf, Add as AddOf, Sub as SubOf, Mul as MulOf, Div as DivOf, Mod as ModOf, FlatExpression, SigOf, Const as ConstOf, Unary, Binary, DelayOf, Cell, unary_row, binary_row, kind_of_result, stored, AppliesToOne, Changes, Combines, clock_of, held as held_value, Steps, kept, Allows, IsMade, AreMet, found_at, Site, Made, Translated, with_signal, with_equation, with_own, with_clocks, own, next as next_signal, by_one, unary_form, binary_form, signal_in, signal_id, made_signal, less, binary, cell}
+use Rattle.sig_flat.proofs.Common.{◌≡◌, ◌↔◌, ◌&&◌, ◌||◌, ℕ, suc, ℤ, pos, true, false, List, [], ◌∷◌, Option, None, Some, map, refl, sym, ap, subst, ◌∙◌, Kind, Boolean, Event, SigId, Signal as Declared, Span, Identity, Seen, Instant, Bounded, seen_at, Memory, Meets, is_signal, Form, Fun, Delay, WhenConst, Sync, EventOf, Id, Not, Operand, Sig, UnOp, NotOf, Neg as NegOf, WhenOf, Clock, BinOp, Default as DefaultOf, When as Sampled, Plus, Meet, Less, Or as OrOf, Xor as XorOf, And as AndOf, Eq as EqOf, Ne as NeOf, Lt as LtOf, Le as LeOf, Gt as GtOf, Ge as GeOf, Add as AddOf, Sub as SubOf, Mul as MulOf, Div as DivOf, Mod as ModOf, FlatExpression, SigOf, Const as ConstOf, Unary, Binary, DelayOf, Cell, unary_row, binary_row, kind_of_result, stored, AppliesToOne, Changes, Combines, clock_of, held as held_value, Steps, kept, Allows, IsMade, AreMet, found_at, Site, Made, Translated, with_signal, with_equation, with_own, with_clocks, own, next as next_signal, by_one, unary_form, binary_form, signal_in, signal_id, made_signal, less, binary, cell, named, translate, clocked}
 use Rattle.sig_kernel.specs.declared.equation.Form.TheVariants.{When, Default}
 use Rattle.sig_kernel.specs.declared.equation.FunOp.TheVariants.{Neg, And, Or, Xor, Eq, Ne, Lt, Le, Gt, Ge, Add, Sub, Mul, Div, Mod}
 use Rattle.sig_kernel.specs.declared.equation.Operand.TheVariants.{Const}
@@ -7,7 +7,7 @@ use Rattle.sig_tree.specs.Operators.{Signal}
 use Rattle.sig_flat.proofs.MetOperators.{one_row, both_row, delay_row, when_row, constant_row, default_row, clock_row, plus_row, meet_row, less_row, cell_row}
 use Rattle.sig_flat.proofs.Agreement.{Fitting}
 use Rattle.sig_flat.proofs.Instants.{at_first, behind_form, behind_made, behind_translated}
-use Rattle.sig_flat.proofs.TranslationCases.{named, unary_of, delay_of, translation, after_first, after_operand, is_fixed, is_several, found_signal, is_fixed_where, Met, equation_met, equation_behind, with_forms, forms_met, forms_behind, own_met}
+use Rattle.sig_flat.proofs.TranslationCases.{unary_of, delay_of, after_first, after_operand, is_fixed, is_several, found_signal, is_fixed_where, Met, equation_met, equation_behind, with_forms, forms_met, forms_behind, own_met}
 
 -- one equation, and the operator that it is
 pub unary_meets : (op : UnOp) (x : Operand) (y : SigId) (now : Instant) → Fitting now → is_fixed x ≡ false
@@ -19,9 +19,8 @@ unary_meets Clock (Sig x) y now fits h = clock_row at_first now x y
 unary_meets op (Const c) y now fits h = absurd cc
 
 some_signal : (u v : Operand) → (is_fixed u && is_fixed v) ≡ false → is_signal u || is_signal v ≡ true
-some_signal (Sig u) v h = refl
-some_signal (Const c) (Sig v) h = refl
 some_signal (Const c) (Const d) h = absurd cc
+some_signal _ _ h = refl
 
 pub binary_meets : (op : BinOp) (u v : Operand) (y : SigId) (now : Instant) → is_several op ≡ false → Fitting now → Allows (binary_row op).constants (is_fixed u) (is_fixed v)
     → Meets Bounded at_first now (binary_form op u v y) ↔ Combines op (found_at now u) (found_at now v) (seen_at now y.0)
@@ -45,20 +44,15 @@ binary_meets SubOf u v y now one fits h = both_row at_first now Sub u v y (fits 
 binary_meets MulOf u v y now one fits h = both_row at_first now Mul u v y (fits y.0) (some_signal u v h)
 binary_meets DivOf u v y now one fits h = both_row at_first now Div u v y (fits y.0) (some_signal u v h)
 binary_meets ModOf u v y now one fits h = both_row at_first now Mod u v y (fits y.0) (some_signal u v h)
-binary_meets Plus u v y now one fits h = absurd cc
-binary_meets Meet u v y now one fits h = absurd cc
-binary_meets Less u v y now one fits h = absurd cc
+binary_meets _ u v y now one fits h = absurd cc
 
 unary_stays : (op : UnOp) (x : Operand) (y : SigId) (now : Instant) → behind_form now (unary_form op x y) ≡ unary_form op x y
 unary_stays NotOf x y now = refl
-unary_stays NegOf x y now = refl
-unary_stays WhenOf x y now = refl
-unary_stays Clock x y now = refl
+unary_stays _ x y now = refl
 
 binary_stays : (op : BinOp) (u v : Operand) (y : SigId) (now : Instant) → behind_form now (binary_form op u v y) ≡ binary_form op u v y
 binary_stays Sampled (Sig x) v y now = refl
-binary_stays Sampled (Const c) v y now = refl
-binary_stays _ u v y now = refl
+binary_stays _ _ v y now = refl
 
 -- an operator that is one equation
 pub one_met : (left : Option ℕ) (site : Site) (kind : Kind) (at : Span) (form : SigId → Form) (made : Made) (now : Instant)
@@ -104,11 +98,6 @@ abbrev pub cell_signals : Option ℕ → Site → Span → Translated → Transl
 cell_signals left site at x b = with_signal site Event at (with_signal site Event at (with_signal site Event at (cell_whole left site at x b)))
 
 -- an operator on clocks that is their two events and one equation more
-abbrev pub clocked : Option ℕ → Site → Span → (SigId → SigId → SigId → Form) → Operand → Operand → Made → Translated
-clocked left site at last u v made =
-    let y : ℕ = own left (with_clocks site at made) in
-    made_signal y Event (with_forms at (clock_forms last (next_signal made) y u v) (with_own left site Event at (with_clocks site at made)))
-
 pub record IsClocked (op : BinOp) (last : SigId → SigId → SigId → Form) : Type 0 where
   pub row : (memory : Memory) (instant : Instant) (u v e f y : SigId) → AreMet memory instant (EventOf e u ∷ EventOf f v ∷ last y e f ∷ [])
       ↔ ((seen_at instant e.0 ≡ clock_of (seen_at instant u.0)) × (seen_at instant f.0 ≡ clock_of (seen_at instant v.0))
@@ -220,9 +209,9 @@ pub record Says (left : Option ℕ) (site : Site) (e : FlatExpression) (made : M
   -- behind it the expression is this one
   pub next : FlatExpression
   -- and at it it is what the operand is
-  pub steps : Steps e now (found_at now (translation left site e made).operand) next
+  pub steps : Steps e now (found_at now (translate left site e made).operand) next
   -- the translation of the one behind is the translation, behind the instant
-  pub is : translation left site next (behind_made now made) ≡ behind_translated now (translation left site e made)
+  pub is : translate left site next (behind_made now made) ≡ behind_translated now (translate left site e made)
   -- what was made before is met too
   pub before : Met now made
 
@@ -245,11 +234,11 @@ named_says (Some left) site number at made now fits met =
     }
 
 pub says : (left : Option ℕ) (site : Site) (signals : List Declared) (e : FlatExpression) (made : Made) (now : Instant) → Fitting now → IsMade signals e
-    → Met now (translation left site e made).made → Says left site e made now
+    → Met now (translate left site e made).made → Says left site e made now
 says left site signals (SigOf number at) made now fits h met = named_says left site number at made now fits met
 says left site signals (ConstOf value kind at) made now fits h met = record { next = ConstOf value kind at; steps = (refl, refl); is = refl; before = met }
 says left site signals (Unary op operand at) made now fits h met =
-    let x : Translated = translation None site operand made in
+    let x : Translated = translate None site operand made in
     let y : ℕ = own left x.made in
     let shape : is_fixed x.operand ≡ false = is_fixed_where None site operand made ∙ h.0 in
     let o = one_met left site (kind_of_result (unary_row op).result x.kind None) at (unary_form op x.operand) x.made now met in
@@ -262,8 +251,8 @@ says left site signals (Unary op operand at) made now fits h met =
       before = s.before;
     }
 says left site signals (Binary op first second at) made now fits h met =
-    let u : Translated = translation None site first made in
-    let v : Translated = translation None site second u.made in
+    let u : Translated = translate None site first made in
+    let v : Translated = translate None site second u.made in
     let allowed : Allows (binary_row op).constants (is_fixed u.operand) (is_fixed v.operand) = rw (is_fixed_where None site first made, is_fixed_where None site second u.made) h.0 in
     let o = binary_says left site op at u v now fits allowed met in
     let s = says None site signals second u.made now fits h.2 o.0 in
@@ -275,7 +264,7 @@ says left site signals (Binary op first second at) made now fits h met =
       before = r.before;
     }
 says left site signals (DelayOf operand init at) made now fits h met =
-    let x : Translated = translation None site operand made in
+    let x : Translated = translate None site operand made in
     let v : Seen = seen_at now (signal_in x.operand).0 in
     let form : ℤ → SigId → Form = λ c y. Delay y (signal_in x.operand) c in
     let shape : is_fixed x.operand ≡ false = is_fixed_where None site operand made ∙ h.0 in
@@ -289,8 +278,8 @@ says left site signals (DelayOf operand init at) made now fits h met =
       before = s.before;
     }
 says left site signals (Cell operand held init at) made now fits h met =
-    let x : Translated = translation None site operand made in
-    let b : Translated = translation None site held x.made in
+    let x : Translated = translate None site operand made in
+    let b : Translated = translate None site held x.made in
     let v : Seen = seen_at now (signal_in x.operand).0 in
     let t : Seen = seen_at now (signal_in b.operand).0 in
     let x_shape : is_fixed x.operand ≡ false = is_fixed_where None site operand made ∙ h.0 in

@@ -1,7 +1,8 @@
 -- The equations of a kernel name signals that are there.
-use Rattle.sig_flat.proofs.Common.{◌≡◌, ◌≤◌, ◌<◌, ◌+◌, ◌&&◌, ℕ, suc, ℤ, pos, true, List, [], ◌∷◌, Option, None, Some, length, refl, ap, ◌∙◌, arith, lt-ltb, length-append, AllPass-from_list_all, AllByRecursion, AllPass, list_all, Kind, Boolean, Event, SigId, Span, UnOp, NotOf, Neg as NegOf, WhenOf, Clock, BinOp, Default as DefaultOf, When as Sampled, Plus, Meet, Less, Or, Xor, And, Eq, Ne, Lt, Le, Gt, Ge, Add, Sub, Mul, Div, Mod, FlatExpression, SigOf, Const as ConstOf, Unary, Binary, DelayOf, Cell, FlatEquation, Defines, Equal, FlatBody, unary_row, binary_row, kind_of_result, stored, operands_of, target_of, form_within, operand_within, target_within, Equation, Id, Not as Negation, Operand, Sig, Form, Fun, Delay, WhenConst, Sync, EventOf, Site, Made, Translated, Together, with_signal, with_equation, with_own, with_clocks, own, next, by_one, unary_form, sampled_form, binary_form, kind_at, cluster_at, signal_in, signal_id, plus, meet, less, binary, cell, translate, operands_from, with_syncs, with_all_syncs, with_flat_equation, with_flat_equations, made_of, kernel_of, NamesBelow, IsBelow, NamesItsSignals, all_added, all_so}
+use Rattle.sig_flat.proofs.Common.{◌≡◌, ◌≤◌, ◌<◌, ◌+◌, ◌&&◌, ℕ, suc, ℤ, pos, true, List, [], ◌∷◌, Option, None, Some, length, refl, ap, ◌∙◌, arith, lt-ltb, AllPass-from_list_all, AllByRecursion, AllPass, list_all, Kind, Boolean, Event, SigId, Span, UnOp, WhenOf, Clock, BinOp, Default as DefaultOf, When as Sampled, Plus, Meet, Less, FlatExpression, SigOf, Const as ConstOf, Unary, Binary, DelayOf, Cell, FlatEquation, Defines, Equal, FlatBody, unary_row, binary_row, kind_of_result, stored, operands_of, target_of, form_within, operand_within, target_within, Equation, Id, Not as Negation, Operand, Sig, Form, Fun, Delay, WhenConst, Sync, EventOf, Site, Made, Translated, Together, with_signal, with_equation, with_own, with_clocks, own, next, by_one, unary_form, sampled_form, binary_form, kind_at, cluster_at, signal_in, signal_id, less, binary, cell, translate, operands_from, with_syncs, with_all_syncs, with_flat_equation, with_flat_equations, made_of, kernel_of, NamesBelow, IsBelow, NamesItsSignals, all_added, all_so, clocked}
 use Rattle.sig_kernel.specs.declared.equation.Operand.TheVariants.{Const}
 use Rattle.sig_kernel.specs.declared.equation.Form.TheVariants.{When, Default}
+use Rattle.sig_flat.proofs.FewEquations.{signal_more, clocks_more}
 use Rattle.sig_flat.proofs.Sizes.{own_no_less, translate_no_less, operands_no_less, equation_no_less}
 
 abbrev OperandLow : ℕ → Operand → Type 0
@@ -45,12 +46,9 @@ form_more m n form more h = record {
 low_added : (made : Made) (at : Span) (form : Form) → IsLow made → FormLow (length made.signals) form → IsLow (with_equation made at form)
 low_added made at form low h = all_added (λ (q : Equation). FormLow (length made.signals) q.form) made.equations (record { form = form; at = at }) low h
 
-one_more : (site : Site) (kind : Kind) (at : Span) (made : Made) → length (with_signal site kind at made).signals ≡ length made.signals + 1
-one_more site kind at made = length-append made.signals _
-
 low_signal : (site : Site) (kind : Kind) (at : Span) (made : Made) → IsLow made → IsLow (with_signal site kind at made)
 low_signal site kind at made low =
-    let more : length (with_signal site kind at made).signals ≡ length made.signals + 1 = one_more site kind at made in
+    let more : length (with_signal site kind at made).signals ≡ length made.signals + 1 = signal_more site kind at made in
     all_so (λ (q : Equation). FormLow (length made.signals) q.form) (λ (q : Equation). FormLow (length (with_signal site kind at made).signals) q.form) (λ q. form_more (length made.signals) (length (with_signal site kind at made).signals) q.form (omega arith)) made.equations low
 
 low_own : (left : Option ℕ) (site : Site) (kind : Kind) (at : Span) (made : Made) → IsLow made → IsLow (with_own left site kind at made)
@@ -58,7 +56,7 @@ low_own None site kind at made low = low_signal site kind at made low
 low_own (Some left) site kind at made low = low
 
 own_low : (left : Option ℕ) (site : Site) (kind : Kind) (at : Span) (made : Made) → LeftLow (length made.signals) left → own left made < length (with_own left site kind at made).signals
-own_low None site kind at made h = let more : length (with_signal site kind at made).signals ≡ length made.signals + 1 = one_more site kind at made in omega arith
+own_low None site kind at made h = let more : length (with_signal site kind at made).signals ≡ length made.signals + 1 = signal_more site kind at made in omega arith
 own_low (Some left) site kind at made h = h
 
 signal_is_low : (n : ℕ) (o : Operand) → 0 < n → OperandLow n o → (signal_in o).0 < n
@@ -81,10 +79,9 @@ one_good left site kind at form made low left_is forms =
     }
 
 unary_low : (op : UnOp) (n : ℕ) (x : Operand) (y : SigId) → 0 < n → OperandLow n x → y.0 < n → FormLow n (unary_form op x y)
-unary_low NotOf n x y some h k = record { target = k; operands = (h, tt) }
-unary_low NegOf n x y some h k = record { target = k; operands = (h, tt) }
 unary_low WhenOf n x y some h k = record { target = k; operands = (tt, (signal_is_low n x some h, tt)) }
 unary_low Clock n x y some h k = record { target = k; operands = (signal_is_low n x some h, tt) }
+unary_low _ n x y some h k = record { target = k; operands = (h, tt) }
 
 sampled_low : (n : ℕ) (x b : Operand) (y : SigId) → 0 < n → OperandLow n x → OperandLow n b → y.0 < n → FormLow n (sampled_form x b y)
 sampled_low n (Sig x) b y some h i k = record { target = k; operands = (h, (signal_is_low n b some i, tt)) }
@@ -93,44 +90,26 @@ sampled_low n (Const c) b y some h i k = record { target = k; operands = (tt, (s
 binary_low : (op : BinOp) (n : ℕ) (u v : Operand) (y : SigId) → 0 < n → OperandLow n u → OperandLow n v → y.0 < n → FormLow n (binary_form op u v y)
 binary_low DefaultOf n u v y some h i k = record { target = k; operands = (signal_is_low n u some h, (signal_is_low n v some i, tt)) }
 binary_low Sampled n u v y some h i k = sampled_low n u v y some h i k
-binary_low Or n u v y some h i k = record { target = k; operands = (h, (i, tt)) }
-binary_low Xor n u v y some h i k = record { target = k; operands = (h, (i, tt)) }
-binary_low And n u v y some h i k = record { target = k; operands = (h, (i, tt)) }
-binary_low Eq n u v y some h i k = record { target = k; operands = (h, (i, tt)) }
-binary_low Ne n u v y some h i k = record { target = k; operands = (h, (i, tt)) }
-binary_low Lt n u v y some h i k = record { target = k; operands = (h, (i, tt)) }
-binary_low Le n u v y some h i k = record { target = k; operands = (h, (i, tt)) }
-binary_low Gt n u v y some h i k = record { target = k; operands = (h, (i, tt)) }
-binary_low Ge n u v y some h i k = record { target = k; operands = (h, (i, tt)) }
-binary_low Add n u v y some h i k = record { target = k; operands = (h, (i, tt)) }
-binary_low Sub n u v y some h i k = record { target = k; operands = (h, (i, tt)) }
-binary_low Mul n u v y some h i k = record { target = k; operands = (h, (i, tt)) }
-binary_low Div n u v y some h i k = record { target = k; operands = (h, (i, tt)) }
-binary_low Mod n u v y some h i k = record { target = k; operands = (h, (i, tt)) }
 binary_low Plus n u v y some h i k = record { target = tt; operands = (k, (k, tt)) }
 binary_low Meet n u v y some h i k = record { target = tt; operands = (k, (k, tt)) }
 binary_low Less n u v y some h i k = record { target = tt; operands = (k, (k, tt)) }
+binary_low _ n u v y some h i k = record { target = k; operands = (h, (i, tt)) }
 
 -- the two clocks of an operator on clocks
 low_clocks : (site : Site) (at : Span) (made : Made) → IsLow made → IsLow (with_clocks site at made)
 low_clocks site at made low = low_signal site Event at (with_signal site Event at made) (low_signal site Event at made low)
 
-two_more : (site : Site) (at : Span) (made : Made) → length (with_clocks site at made).signals ≡ length made.signals + 2
-two_more site at made =
-    let first = one_more site Event at made in
-    let second = one_more site Event at (with_signal site Event at made) in
-    omega arith
-
-plus_good : (left : Option ℕ) (site : Site) (at : Span) (u v : Operand) (made : Made) → 0 < length made.signals → IsLow made → LeftLow (length made.signals) left
-    → OperandLow (length made.signals) u → OperandLow (length made.signals) v → Good (plus left site at u v made)
-plus_good left site at u v made some low left_is u_is v_is =
+clocked_good : (left : Option ℕ) (site : Site) (at : Span) (last : SigId → SigId → SigId → Form) (u v : Operand) (made : Made)
+    → ((n : ℕ) (y e f : SigId) → y.0 < n → e.0 < n → f.0 < n → FormLow n (last y e f)) → 0 < length made.signals → IsLow made → LeftLow (length made.signals) left
+    → OperandLow (length made.signals) u → OperandLow (length made.signals) v → Good (clocked left site at last u v made)
+clocked_good left site at last u v made last_low some low left_is u_is v_is =
     let clocks : Made = with_clocks site at made in
     let whole : Made = with_own left site Event at clocks in
     let n : ℕ = length whole.signals in
     let e : SigId = signal_id (next made) in
     let f : SigId = signal_id (suc (next made)) in
     let y : SigId = signal_id (own left clocks) in
-    let two : length clocks.signals ≡ length made.signals + 2 = two_more site at made in
+    let two : length clocks.signals ≡ length made.signals + 2 = clocks_more site at made in
     let more : length clocks.signals ≤ n = own_no_less left site Event at clocks in
     let e_low : e.0 < n = omega arith in
     let f_low : f.0 < n = omega arith in
@@ -143,33 +122,7 @@ plus_good left site at u v made some low left_is u_is v_is =
     let first_low : IsLow first = low_added whole at (EventOf e (signal_in u)) start (record { target = e_low; operands = (u_low, tt) }) in
     let second_low : IsLow second = low_added first at (EventOf f (signal_in v)) first_low (record { target = f_low; operands = (v_low, tt) }) in
     record {
-      low = low_added second at (Default y e f) second_low (record { target = y_low; operands = (e_low, (f_low, tt)) });
-      operand = y_low;
-    }
-
-meet_good : (left : Option ℕ) (site : Site) (at : Span) (u v : Operand) (made : Made) → 0 < length made.signals → IsLow made → LeftLow (length made.signals) left
-    → OperandLow (length made.signals) u → OperandLow (length made.signals) v → Good (meet left site at u v made)
-meet_good left site at u v made some low left_is u_is v_is =
-    let clocks : Made = with_clocks site at made in
-    let whole : Made = with_own left site Event at clocks in
-    let n : ℕ = length whole.signals in
-    let e : SigId = signal_id (next made) in
-    let f : SigId = signal_id (suc (next made)) in
-    let y : SigId = signal_id (own left clocks) in
-    let two : length clocks.signals ≡ length made.signals + 2 = two_more site at made in
-    let more : length clocks.signals ≤ n = own_no_less left site Event at clocks in
-    let e_low : e.0 < n = omega arith in
-    let f_low : f.0 < n = omega arith in
-    let y_low : y.0 < n = own_low left site Event at clocks (left_more (length made.signals) (length clocks.signals) left (omega arith) left_is) in
-    let u_low : (signal_in u).0 < n = signal_is_low n u (omega arith) (operand_more (length made.signals) n u (omega arith) u_is) in
-    let v_low : (signal_in v).0 < n = signal_is_low n v (omega arith) (operand_more (length made.signals) n v (omega arith) v_is) in
-    let start : IsLow whole = low_own left site Event at clocks (low_clocks site at made low) in
-    let first : Made = with_equation whole at (EventOf e (signal_in u)) in
-    let second : Made = with_equation first at (EventOf f (signal_in v)) in
-    let first_low : IsLow first = low_added whole at (EventOf e (signal_in u)) start (record { target = e_low; operands = (u_low, tt) }) in
-    let second_low : IsLow second = low_added first at (EventOf f (signal_in v)) first_low (record { target = f_low; operands = (v_low, tt) }) in
-    record {
-      low = low_added second at (When y e f) second_low (record { target = y_low; operands = (e_low, (f_low, tt)) });
+      low = low_added second at (last y e f) second_low (last_low n y e f y_low e_low f_low);
       operand = y_low;
     }
 
@@ -186,9 +139,9 @@ less_good left site at u v made some low left_is u_is v_is =
     let z : SigId = signal_id (next clocks) in
     let w : SigId = signal_id (suc (next clocks)) in
     let y : SigId = signal_id (own left truths) in
-    let two : length clocks.signals ≡ length made.signals + 2 = two_more site at made in
-    let three : length one.signals ≡ length clocks.signals + 1 = one_more site Boolean at clocks in
-    let four : length truths.signals ≡ length one.signals + 1 = one_more site Boolean at one in
+    let two : length clocks.signals ≡ length made.signals + 2 = clocks_more site at made in
+    let three : length one.signals ≡ length clocks.signals + 1 = signal_more site Boolean at clocks in
+    let four : length truths.signals ≡ length one.signals + 1 = signal_more site Boolean at one in
     let more : length truths.signals ≤ n = own_no_less left site Event at truths in
     let e_low : e.0 < n = omega arith in
     let f_low : f.0 < n = omega arith in
@@ -226,11 +179,11 @@ cell_good left site init at x b some low left_is x_is b_is =
     let e : SigId = signal_id (next whole) in
     let w : SigId = signal_id (suc (next whole)) in
     let d : SigId = signal_id (suc (suc (next whole))) in
-    let count_kept : length kept.signals ≡ length b.made.signals + 1 = one_more site kind at b.made in
+    let count_kept : length kept.signals ≡ length b.made.signals + 1 = signal_more site kind at b.made in
     let count_whole : length kept.signals ≤ length whole.signals = own_no_less left site kind at kept in
-    let count_one : length one.signals ≡ length whole.signals + 1 = one_more site Event at whole in
-    let count_two : length two.signals ≡ length one.signals + 1 = one_more site Event at one in
-    let count_all : n ≡ length two.signals + 1 = one_more site Event at two in
+    let count_one : length one.signals ≡ length whole.signals + 1 = signal_more site Event at whole in
+    let count_two : length two.signals ≡ length one.signals + 1 = signal_more site Event at one in
+    let count_all : n ≡ length two.signals + 1 = signal_more site Event at two in
     let own_is : y.0 < length whole.signals = own_low left site kind at kept (left_more (length b.made.signals) (length kept.signals) left (omega arith) left_is) in
     let z_low : z.0 < n = omega arith in
     let y_low : y.0 < n = omega arith in
@@ -265,25 +218,12 @@ plain_good left site op at u v some low left_is u_is v_is = one_good left site (
 
 binary_good : (left : Option ℕ) (site : Site) (op : BinOp) (at : Span) (u v : Translated) → 0 < length v.made.signals → IsLow v.made → LeftLow (length v.made.signals) left
     → OperandLow (length v.made.signals) u.operand → OperandLow (length v.made.signals) v.operand → Good (binary left site op at u v)
-binary_good left site Plus at u v some low left_is u_is v_is = plus_good left site at u.operand v.operand v.made some low left_is u_is v_is
-binary_good left site Meet at u v some low left_is u_is v_is = meet_good left site at u.operand v.operand v.made some low left_is u_is v_is
+binary_good left site Plus at u v some low left_is u_is v_is =
+    clocked_good left site at Default u.operand v.operand v.made (λ n y e f own first second. record { target = own; operands = (first, (second, tt)) }) some low left_is u_is v_is
+binary_good left site Meet at u v some low left_is u_is v_is =
+    clocked_good left site at When u.operand v.operand v.made (λ n y e f own first second. record { target = own; operands = (first, (second, tt)) }) some low left_is u_is v_is
 binary_good left site Less at u v some low left_is u_is v_is = less_good left site at u.operand v.operand v.made some low left_is u_is v_is
-binary_good left site DefaultOf at u v some low left_is u_is v_is = plain_good left site DefaultOf at u v some low left_is u_is v_is
-binary_good left site Sampled at u v some low left_is u_is v_is = plain_good left site Sampled at u v some low left_is u_is v_is
-binary_good left site Or at u v some low left_is u_is v_is = plain_good left site Or at u v some low left_is u_is v_is
-binary_good left site Xor at u v some low left_is u_is v_is = plain_good left site Xor at u v some low left_is u_is v_is
-binary_good left site And at u v some low left_is u_is v_is = plain_good left site And at u v some low left_is u_is v_is
-binary_good left site Eq at u v some low left_is u_is v_is = plain_good left site Eq at u v some low left_is u_is v_is
-binary_good left site Ne at u v some low left_is u_is v_is = plain_good left site Ne at u v some low left_is u_is v_is
-binary_good left site Lt at u v some low left_is u_is v_is = plain_good left site Lt at u v some low left_is u_is v_is
-binary_good left site Le at u v some low left_is u_is v_is = plain_good left site Le at u v some low left_is u_is v_is
-binary_good left site Gt at u v some low left_is u_is v_is = plain_good left site Gt at u v some low left_is u_is v_is
-binary_good left site Ge at u v some low left_is u_is v_is = plain_good left site Ge at u v some low left_is u_is v_is
-binary_good left site Add at u v some low left_is u_is v_is = plain_good left site Add at u v some low left_is u_is v_is
-binary_good left site Sub at u v some low left_is u_is v_is = plain_good left site Sub at u v some low left_is u_is v_is
-binary_good left site Mul at u v some low left_is u_is v_is = plain_good left site Mul at u v some low left_is u_is v_is
-binary_good left site Div at u v some low left_is u_is v_is = plain_good left site Div at u v some low left_is u_is v_is
-binary_good left site Mod at u v some low left_is u_is v_is = plain_good left site Mod at u v some low left_is u_is v_is
+binary_good left site op at u v some low left_is u_is v_is = plain_good left site op at u v some low left_is u_is v_is
 
 names_more : (m n : ℕ) (e : FlatExpression) → m ≤ n → NamesBelow m e → NamesBelow n e
 names_more m n (SigOf number at) more h = let below : number < m = h in omega arith

@@ -36,10 +36,9 @@ less_is (Some u) (Some v) = refl
 
 -- `cell`: what it is, where it is present as it has to be
 cell_step : (c : Bool) (previous : ℤ) (y : Seen) → is_some y ≡ is_some (if c then Some (pos 1) else None) → y ≡ where_present y previous → y ≡ (if c then Some previous else None)
-cell_step true previous None present is = absurd cc
 cell_step true previous (Some v) present is = is
 cell_step false previous None present is = refl
-cell_step false previous (Some v) present is = absurd cc
+cell_step _ previous _ present is = absurd cc
 
 pub cell_to : (previous : ℤ) (x b y : Seen) → y ≡ or_else x (where_present y previous) → is_some y ≡ is_some (or_else (clock_of x) (sampled (Some (pos 1)) b)) → y ≡ held previous x b
 cell_to previous (Some x) b y is present = is
@@ -52,15 +51,13 @@ value_step true previous = refl
 value_step false previous = refl
 
 pub cell_value : (previous : ℤ) (x b : Seen) → held previous x b ≡ or_else x (where_present (held previous x b) previous)
-cell_value previous (Some x) b = refl
-cell_value previous None None = refl
 cell_value previous None (Some b) = value_step (int_eq b (pos 1)) previous
+cell_value previous _ _ = refl
 
 present_step : (c : Bool) (previous : ℤ) → is_some (if c then Some previous else None) ≡ is_some (if c then Some (pos 1) else None)
 present_step true previous = refl
 present_step false previous = refl
 
 pub cell_present : (previous : ℤ) (x b : Seen) → is_some (held previous x b) ≡ is_some (or_else (clock_of x) (sampled (Some (pos 1)) b))
-cell_present previous (Some x) b = refl
-cell_present previous None None = refl
 cell_present previous None (Some b) = present_step (int_eq b (pos 1)) previous
+cell_present previous _ _ = refl

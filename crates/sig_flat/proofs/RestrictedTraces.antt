@@ -1,5 +1,5 @@
 -- Lemmas on traces of a kernel without its intermediates.
-use Rattle.sig_flat.proofs.Common.{◌≡◌, ◌≤◌, ◌<◌, ◌+◌, ◌-◌, ◌++◌, ◌↔◌, ℕ, zero, suc, ℤ, min, Bool, true, false, List, [], ◌∷◌, length, take, drop, map, replicate, refl, ap, sym, subst, ◌∙◌, arith, append_assoc, Option, None, Some, option_to_list, slice_index_or, AllByRecursion, append-nil, drop-take, get_or-take, length-append, length-map, length-replicate, length-take, length-take-le, take-append-drop, take-replicate, take_at, Trace, Instant, Seen, Range, Bounded, AreOfKinds, Fits, IsLongest, IsPrefixOf, NoneSilent, flow_of, is_silent, reduce, seen_at, Signal, kernel_of, restricted, IsKernelTrace, instant_text, output_text, outputs_of, seen_line, seen_lines, Kernel, FlatBody, IsProcessTrace}
+use Rattle.sig_flat.proofs.Common.{◌≡◌, ◌≤◌, ◌<◌, ◌+◌, ◌-◌, ◌++◌, ◌↔◌, ℕ, zero, suc, ℤ, min, Bool, true, false, List, [], ◌∷◌, length, take, drop, map, replicate, refl, ap, sym, subst, ◌∙◌, arith, append_assoc, None, Some, option_to_list, slice_index_or, AllByRecursion, append-nil, drop-take, get_or-take, length-append, length-map, length-replicate, length-take, length-take-le, take-append-drop, take-replicate, take_at, Trace, Instant, Seen, Range, Bounded, AreOfKinds, Fits, IsLongest, IsPrefixOf, NoneSilent, flow_of, is_silent, reduce, seen_at, Signal, kernel_of, restricted, IsKernelTrace, instant_text, output_text, outputs_of, seen_line, seen_lines, Kernel, FlatBody, IsProcessTrace}
 
 -- what is known of the traces of a kernel
 pub record Known (flat : FlatBody) : Type 0 where
@@ -25,16 +25,14 @@ absent_silent zero = refl
 absent_silent (suc n) = absent_silent n
 
 take_silent : (n : ℕ) (instant : Instant) → is_silent instant ≡ true → is_silent (take n instant) ≡ true
-take_silent zero instant silent = refl
-take_silent (suc n) [] silent = refl
 take_silent (suc n) (None ∷ instant) silent = take_silent n instant silent
 take_silent (suc n) (Some v ∷ instant) silent = cc
+take_silent _ _ silent = refl
 
 kinds_length : (range : Range) (signals : List Signal) (instant : Instant) → AreOfKinds range (map (λ (s : Signal). s.kind) signals) instant → length instant ≡ length signals
 kinds_length range [] [] are = refl
-kinds_length range [] (seen ∷ instant) are = absurd are
-kinds_length range (s ∷ signals) [] are = absurd are
 kinds_length range (s ∷ signals) (seen ∷ instant) are = ap suc (kinds_length range signals instant are.1)
+kinds_length range _ _ are = absurd are
 
 same_ends : (n : ℕ) (past : Trace) (x y : Instant) → take n x ≡ take n y → restricted n (past ++ x ∷ []) ≡ restricted n (past ++ y ∷ [])
 same_ends n [] x y same = ap (λ i. i ∷ []) same
@@ -113,10 +111,9 @@ fits_restricted n flows trace few = (
 )
 
 lines_taken : (signals : List Signal) (m : ℕ) (seen : List Seen) → length signals ≤ m → seen_lines signals (take m seen) ≡ seen_lines signals seen
-lines_taken [] m seen le = refl
 lines_taken (signal ∷ signals) zero seen le = absurd (omega (arith, le))
-lines_taken (signal ∷ signals) (suc m) [] le = refl
 lines_taken (signal ∷ signals) (suc m) (s ∷ seen) le = ap (λ rest. seen_line signal s ++ rest) (lines_taken signals m seen (omega (arith, le)))
+lines_taken _ _ _ le = refl
 
 instant_restricted : (kernel : Kernel) (n : ℕ) (instant : Instant) → kernel.inputs + kernel.outputs ≤ n → instant_text kernel (take n instant) ≡ instant_text kernel instant
 instant_restricted kernel n instant le =
@@ -141,9 +138,8 @@ restricted_prefix : (n : ℕ) (t u : Trace) → IsPrefixOf t u → IsPrefixOf (r
 restricted_prefix n t u begins = (restricted n begins.0, ap (λ trace. restricted n trace) begins.1 ∙ restricted_append n t begins.0)
 
 take_restricted : (n m : ℕ) (t : Trace) → take m (restricted n t) ≡ restricted n (take m t)
-take_restricted n zero t = refl
-take_restricted n (suc m) [] = refl
 take_restricted n (suc m) (instant ∷ t) = ap (λ rest. take n instant ∷ rest) (take_restricted n m t)
+take_restricted n _ _ = refl
 
 -- the longest traces
 pub longest_restricted : (flat : FlatBody) → Known flat → (flows : List (List ℤ)) (limit : ℕ) (trace : Trace) → length flows ≤ length flat.signals

@@ -1,5 +1,5 @@
 -- The equations of a kernel have a signal among their operands.
-use Rattle.sig_flat.proofs.Common.{◌≡◌, ◌⊎◌, ◌++◌, ◌&&◌, ◌||◌, ℕ, ℤ, true, List, [], ◌∷◌, Option, None, Some, refl, ap, ◌∙◌, inl, inr, AllPass-from_list_all, AllByRecursion, AllPass, list_all, list_any, Kind, SigId, Span, UnOp, NotOf, Neg as NegOf, WhenOf, Clock, BinOp, Default as DefaultOf, When as Sampled, Plus, Meet, Less, Or, Xor, And, Eq, Ne, Lt, Le, Gt, Ge, Add, Sub, Mul, Div, Mod, FlatExpression, SigOf, Const as ConstOf, Unary, Binary, DelayOf, Cell, FlatEquation, Defines, Equal, FlatBody, unary_row, binary_row, kind_of_result, stored, operands_of, is_signal, Equation, Id, Operand, Sig, Form, Fun, Delay, Sync, Site, Made, Translated, Together, with_equation, with_own, by_one, unary_form, sampled_form, binary_form, kind_at, cluster_at, own, signal_in, signal_id, binary, cell, translate, operands_from, with_syncs, with_all_syncs, with_flat_equation, with_flat_equations, made_of, kernel_of, IsSignal, Speaks, EquationSpeaks, all_added}
+use Rattle.sig_flat.proofs.Common.{◌≡◌, ◌⊎◌, ◌++◌, ◌&&◌, ◌||◌, ℕ, ℤ, true, List, [], ◌∷◌, Option, None, Some, refl, ap, ◌∙◌, inl, inr, AllPass-from_list_all, AllByRecursion, AllPass, list_all, list_any, Kind, SigId, Span, UnOp, WhenOf, Clock, BinOp, Default as DefaultOf, When as Sampled, Plus, Meet, Less, FlatExpression, SigOf, Const as ConstOf, Unary, Binary, DelayOf, Cell, FlatEquation, Defines, Equal, FlatBody, unary_row, binary_row, kind_of_result, stored, operands_of, is_signal, Equation, Id, Operand, Sig, Form, Fun, Delay, Sync, Site, Made, Translated, Together, with_equation, with_own, by_one, unary_form, sampled_form, binary_form, kind_at, cluster_at, own, signal_in, signal_id, binary, cell, translate, operands_from, with_syncs, with_all_syncs, with_flat_equation, with_flat_equations, made_of, kernel_of, IsSignal, Speaks, EquationSpeaks, all_added}
 use Rattle.sig_kernel.specs.declared.equation.Operand.TheVariants.{Const}
 
 abbrev Tells : Form → Type 0
@@ -22,10 +22,9 @@ told_one : (left : Option ℕ) (site : Site) (kind : Kind) (at : Span) (form : S
 told_one left site kind at form made all h = told (with_own left site kind at made) at (form (signal_id (own left made))) (told_own left site kind at made all) (h (signal_id (own left made)))
 
 unary_tells : (op : UnOp) (x : Operand) (y : SigId) → is_signal x ≡ true → Tells (unary_form op x y)
-unary_tells NotOf x y h = ap (λ b. b || list_any is_signal []) h
-unary_tells NegOf x y h = ap (λ b. b || list_any is_signal []) h
 unary_tells WhenOf x y h = refl
 unary_tells Clock x y h = refl
+unary_tells _ x y h = ap (λ b. b || list_any is_signal []) h
 
 sampled_tells : (x b : Operand) (y : SigId) → Tells (sampled_form x b y)
 sampled_tells (Sig x) b y = refl
@@ -33,10 +32,9 @@ sampled_tells (Const c) b y = refl
 
 -- one of two operands is a signal
 either : (u v : Operand) → (is_signal u ≡ true) ⊎ (is_signal v ≡ true) → list_any is_signal (u ∷ v ∷ []) ≡ true
-either (Sig x) v h = refl
-either (Const c) (Sig y) h = refl
 either (Const c) (Const d) (inl e) = absurd cc
 either (Const c) (Const d) (inr e) = absurd cc
+either _ _ h = refl
 
 binary_tells : (op : BinOp) (u v : Operand) (y : SigId) → (is_signal u ≡ true) ⊎ (is_signal v ≡ true) → Tells (binary_form op u v y)
 binary_tells DefaultOf u v y h = refl
@@ -44,20 +42,7 @@ binary_tells Sampled u v y h = sampled_tells u v y
 binary_tells Plus u v y h = refl
 binary_tells Meet u v y h = refl
 binary_tells Less u v y h = refl
-binary_tells Or u v y h = either u v h
-binary_tells Xor u v y h = either u v h
-binary_tells And u v y h = either u v h
-binary_tells Eq u v y h = either u v h
-binary_tells Ne u v y h = either u v h
-binary_tells Lt u v y h = either u v h
-binary_tells Le u v y h = either u v h
-binary_tells Gt u v y h = either u v h
-binary_tells Ge u v y h = either u v h
-binary_tells Add u v y h = either u v h
-binary_tells Sub u v y h = either u v h
-binary_tells Mul u v y h = either u v h
-binary_tells Div u v y h = either u v h
-binary_tells Mod u v y h = either u v h
+binary_tells _ u v y h = either u v h
 
 abbrev kind_of_row : BinOp → Translated → Translated → Kind
 kind_of_row op u v = kind_of_result (binary_row op).result u.kind (Some v.kind)
@@ -75,25 +60,10 @@ three_told left site kind at made f g h all a b c =
     told (with_equation (with_equation (with_own left site kind at made) at f) at g) at h two c
 
 binary_told : (left : Option ℕ) (site : Site) (op : BinOp) (at : Span) (u v : Translated) → AllTell v.made → (is_signal u.operand ≡ true) ⊎ (is_signal v.operand ≡ true) → AllTell (binary left site op at u v).made
+binary_told left site Less at u v all h = told_list _ _ (told_list _ _ (three_told left site _ at _ _ _ _ all refl refl refl) refl) refl
 binary_told left site Plus at u v all h = three_told left site _ at _ _ _ _ all refl refl refl
 binary_told left site Meet at u v all h = three_told left site _ at _ _ _ _ all refl refl refl
-binary_told left site Less at u v all h = told_list _ _ (told_list _ _ (three_told left site _ at _ _ _ _ all refl refl refl) refl) refl
-binary_told left site DefaultOf at u v all h = plain_told left site DefaultOf at u v all h
-binary_told left site Sampled at u v all h = plain_told left site Sampled at u v all h
-binary_told left site Or at u v all h = plain_told left site Or at u v all h
-binary_told left site Xor at u v all h = plain_told left site Xor at u v all h
-binary_told left site And at u v all h = plain_told left site And at u v all h
-binary_told left site Eq at u v all h = plain_told left site Eq at u v all h
-binary_told left site Ne at u v all h = plain_told left site Ne at u v all h
-binary_told left site Lt at u v all h = plain_told left site Lt at u v all h
-binary_told left site Le at u v all h = plain_told left site Le at u v all h
-binary_told left site Gt at u v all h = plain_told left site Gt at u v all h
-binary_told left site Ge at u v all h = plain_told left site Ge at u v all h
-binary_told left site Add at u v all h = plain_told left site Add at u v all h
-binary_told left site Sub at u v all h = plain_told left site Sub at u v all h
-binary_told left site Mul at u v all h = plain_told left site Mul at u v all h
-binary_told left site Div at u v all h = plain_told left site Div at u v all h
-binary_told left site Mod at u v all h = plain_told left site Mod at u v all h
+binary_told left site op at u v all h = plain_told left site op at u v all h
 
 cell_told : (left : Option ℕ) (site : Site) (init : ℤ) (at : Span) (x b : Translated) → AllTell b.made → AllTell (cell left site init at x b).made
 cell_told None site init at x b all = told_list _ _ (told_list _ _ (told_list _ _ (told_list _ _ (told_list _ _ (told_list _ _ all refl) refl) refl) refl) refl) refl
@@ -102,32 +72,12 @@ cell_told (Some left) site init at x b all = told_list _ _ (told_list _ _ (told_
 -- what is no constant is a signal
 binary_is_one : (site : Site) (op : BinOp) (at : Span) (u v : Translated) → is_signal (binary None site op at u v).operand ≡ true
 binary_is_one site Plus at u v = refl
-binary_is_one site Meet at u v = refl
-binary_is_one site Less at u v = refl
-binary_is_one site DefaultOf at u v = refl
-binary_is_one site Sampled at u v = refl
-binary_is_one site Or at u v = refl
-binary_is_one site Xor at u v = refl
-binary_is_one site And at u v = refl
-binary_is_one site Eq at u v = refl
-binary_is_one site Ne at u v = refl
-binary_is_one site Lt at u v = refl
-binary_is_one site Le at u v = refl
-binary_is_one site Gt at u v = refl
-binary_is_one site Ge at u v = refl
-binary_is_one site Add at u v = refl
-binary_is_one site Sub at u v = refl
-binary_is_one site Mul at u v = refl
-binary_is_one site Div at u v = refl
-binary_is_one site Mod at u v = refl
+binary_is_one site _ at u v = refl
 
 is_one : (site : Site) (e : FlatExpression) (made : Made) → IsSignal e → is_signal (translate None site e made).operand ≡ true
-is_one site (SigOf number at) made h = refl
 is_one site (ConstOf value kind at) made h = absurd h
-is_one site (Unary op operand at) made h = refl
 is_one site (Binary op first second at) made h = binary_is_one site op at (translate None site first made) (translate None site second (translate None site first made).made)
-is_one site (DelayOf operand init at) made h = refl
-is_one site (Cell operand held init at) made h = refl
+is_one site _ made h = refl
 
 one_of : (site : Site) (first second : FlatExpression) (made : Made) → IsSignal first ⊎ IsSignal second
     → (is_signal (translate None site first made).operand ≡ true) ⊎ (is_signal (translate None site second (translate None site first made).made).operand ≡ true)
@@ -135,8 +85,6 @@ one_of site first second made (inl h) = inl (is_one site first made h)
 one_of site first second made (inr h) = inr (is_one site second (translate None site first made).made h)
 
 operand_told : (site : Site) (e : FlatExpression) (made : Made) → AllTell made → Speaks e → AllTell (translate None site e made).made
-operand_told site (SigOf number at) made all h = all
-operand_told site (ConstOf value kind at) made all h = all
 operand_told site (Unary op operand at) made all h = let x : Translated = translate None site operand made in
     told_one None site (kind_of_result (unary_row op).result x.kind None) at (unary_form op x.operand) x.made (operand_told site operand made all h.1) (λ y. unary_tells op x.operand y (is_one site operand made h.0))
 operand_told site (Binary op first second at) made all h = let u : Translated = translate None site first made in
@@ -145,6 +93,7 @@ operand_told site (DelayOf operand init at) made all h = let x : Translated = tr
     told_one None site (stored x.kind) at (λ y. Delay y (signal_in x.operand) init) x.made (operand_told site operand made all h) (λ y. refl)
 operand_told site (Cell operand held init at) made all h = let x : Translated = translate None site operand made in
     cell_told None site init at x (translate None site held x.made) (operand_told site held x.made (operand_told site operand made all h.0) h.1)
+operand_told site _ made all h = all
 
 whole_told : (left : ℕ) (site : Site) (e : FlatExpression) (made : Made) → AllTell made → Speaks e → AllTell (translate (Some left) site e made).made
 whole_told left site (SigOf number at) made all h = told_one (Some left) site (kind_at made.signals left) at (λ y. Fun y Id (Sig (signal_id number) ∷ [])) made all (λ y. refl)

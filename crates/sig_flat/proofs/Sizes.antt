@@ -1,5 +1,5 @@
 -- No translation makes the signals fewer.
-use Rattle.sig_flat.proofs.Common.{◌≡◌, ◌≤◌, ◌+◌, ◌<◌, ℕ, suc, ℤ, List, ◌∷◌, Option, None, Some, length, map, drop, get_or, sym, ap, ◌∙◌, arith, drop-cons, length-append, Kind, SigId, Span, BinOp, FlatExpression, Binary, Cell, FlatEquation, Equal, flat_expression_of, flat_equation_of, FlatExpr, FlatEq, Site, Made, Translated, Together, with_own, translate, operands_from, with_flat_equation, with_flat_equations}
+use Rattle.sig_flat.proofs.Common.{◌≡◌, ◌≤◌, ◌+◌, ◌<◌, ℕ, suc, ℤ, List, ◌∷◌, Option, None, length, map, drop, get_or, sym, ap, ◌∙◌, arith, drop-cons, length-append, Kind, SigId, Span, BinOp, FlatExpression, Binary, Cell, FlatEquation, Equal, flat_expression_of, flat_equation_of, FlatExpr, FlatEq, Site, Made, Translated, Together, with_own, translate, operands_from, with_flat_equation, with_flat_equations}
 use Rattle.sig_flat.proofs.WhatIsLeft.{behind}
 use Rattle.sig_flat.proofs.AddedBehind.{Grows, then, own_grows, binary_grows, cell_grows, translate_grows, operands_grow, all_syncs_grow, equation_grows, equations_grow}
 
@@ -15,17 +15,13 @@ translate_no_less left site e made = no_less (translate_grows left site e made)
 -- what the first of two operands makes is no more than what both and their operator make
 pub binary_no_less : (left : Option ℕ) (site : Site) (op : BinOp) (first second : FlatExpression) (at : Span) (made : Made)
     → length (translate None site first made).made.signals ≤ length (translate left site (Binary op first second at) made).made.signals
-binary_no_less None site op first second at made = let u : Translated = translate None site first made in
-    no_less (then (translate_grows None site second u.made) (binary_grows None site op at u (translate None site second u.made)))
-binary_no_less (Some left) site op first second at made = let u : Translated = translate None site first made in
-    no_less (then (translate_grows None site second u.made) (binary_grows (Some left) site op at u (translate None site second u.made)))
+binary_no_less left site op first second at made = let u : Translated = translate None site first made in
+    no_less (then (translate_grows None site second u.made) (binary_grows left site op at u (translate None site second u.made)))
 
 pub cell_no_less : (left : Option ℕ) (site : Site) (operand held : FlatExpression) (init : ℤ) (at : Span) (made : Made)
     → length (translate None site operand made).made.signals ≤ length (translate left site (Cell operand held init at) made).made.signals
-cell_no_less None site operand held init at made = let x : Translated = translate None site operand made in
-    no_less (then (translate_grows None site held x.made) (cell_grows None site init at x (translate None site held x.made)))
-cell_no_less (Some left) site operand held init at made = let x : Translated = translate None site operand made in
-    no_less (then (translate_grows None site held x.made) (cell_grows (Some left) site init at x (translate None site held x.made)))
+cell_no_less left site operand held init at made = let x : Translated = translate None site operand made in
+    no_less (then (translate_grows None site held x.made) (cell_grows left site init at x (translate None site held x.made)))
 
 pub operands_no_less : (site : Site) (es : List FlatExpression) (made : Made) → length made.signals ≤ length (operands_from site es made).made.signals
 operands_no_less site es made = no_less (operands_grow site es made)

@@ -1,8 +1,9 @@
 -- Which signals the equations of a translation define: each signal that is made, once, and the left side.
-use Rattle.sig_flat.proofs.Common.{◌≡◌, ◌++◌, ◌+◌, ℕ, suc, ℤ, pos, false, List, [], ◌∷◌, length, Option, None, Some, refl, sym, ap, ◌∙◌, append_assoc, arith, append-nil, length-append, false≢true, range_with_len, Kind, Boolean, Event, SigId, Span, is_constant, UnOp, NotOf, Neg as NegOf, WhenOf, Clock, BinOp, Default as DefaultOf, When as Sampled, Plus, Meet, Less, Or as OrOf, Xor as XorOf, And as AndOf, Eq as EqOf, Ne as NeOf, Lt as LtOf, Le as LeOf, Gt as GtOf, Ge as GeOf, Add as AddOf, Sub as SubOf, Mul as MulOf, Div as DivOf, Mod as ModOf, FlatExpression, SigOf, Const as ConstOf, Unary, Binary, DelayOf, Cell, unary_row, binary_row, kind_of_result, stored, Equation, Id, Not, Operand, Sig, Form, Fun, Delay, WhenConst, Sync, EventOf, target_of, Site, Made, Translated, signal_id, signal_in, with_equation, with_signal, with_own, with_clocks, with_clock_equations, by_one, own, next, unary_form, sampled_form, binary_form, kind_at, plus, meet, less, binary, cell, translate}
+use Rattle.sig_flat.proofs.Common.{◌≡◌, ◌++◌, ◌+◌, ℕ, suc, ℤ, pos, false, List, [], ◌∷◌, length, Option, None, Some, refl, sym, ap, ◌∙◌, append_assoc, arith, append-nil, length-append, false≢true, range_with_len, Kind, Boolean, Event, SigId, Span, is_constant, UnOp, NotOf, BinOp, When as Sampled, Plus, Meet, Less, FlatExpression, SigOf, Const as ConstOf, Unary, Binary, DelayOf, Cell, unary_row, binary_row, kind_of_result, stored, Equation, Id, Not, Operand, Sig, Form, Fun, Delay, WhenConst, Sync, EventOf, target_of, Site, Made, Translated, signal_id, signal_in, with_equation, with_signal, with_own, with_clocks, with_clock_equations, by_one, own, next, unary_form, sampled_form, binary_form, kind_at, plus, meet, less, binary, cell, translate, clocked}
 use Rattle.sig_kernel.specs.declared.equation.Operand.TheVariants.{Const}
 use Rattle.sig_kernel.specs.declared.equation.Form.TheVariants.{When, Default}
 use Rattle.sig_flat.proofs.Counts.{range_append}
+use Rattle.sig_flat.proofs.FewEquations.{signal_more, clocks_more}
 
 abbrev pub target_list : Option SigId → List ℕ
 target_list None = []
@@ -96,9 +97,7 @@ one_around left site kind at form made aims = record {
 
 unary_aims : (op : UnOp) (x : Operand) → Aims (unary_form op x)
 unary_aims NotOf x y = refl
-unary_aims NegOf x y = refl
-unary_aims WhenOf x y = refl
-unary_aims Clock x y = refl
+unary_aims _ x y = refl
 
 sampled_aims : (x b : Operand) → Aims (sampled_form x b)
 sampled_aims (Sig x) b y = refl
@@ -117,15 +116,6 @@ five_follow n a b c d a_is b_is c_is d_is =
     three_follow n a b (c ∷ d ∷ []) a_is b_is
     ∙ ap (λ l. n ∷ (n + 1) ∷ l) (ap (λ m. (n + 1 + 1) ∷ m ∷ d ∷ []) c_is ∙ ap (λ m. (n + 1 + 1) ∷ (n + 1 + 1 + 1) ∷ m ∷ []) d_is)
 
-signals_more : (site : Site) (kind : Kind) (at : Span) (made : Made) → length (with_signal site kind at made).signals ≡ length made.signals + 1
-signals_more site kind at made = length-append made.signals _
-
-clocks_more : (site : Site) (at : Span) (made : Made) → length (with_clocks site at made).signals ≡ length made.signals + 2
-clocks_more site at made =
-    let one = signals_more site Event at made in
-    let two = signals_more site Event at (with_signal site Event at made) in
-    omega arith
-
 own_equations : (left : Option ℕ) (site : Site) (kind : Kind) (at : Span) (made : Made) → (with_own left site kind at made).equations ≡ made.equations
 own_equations None site kind at made = refl
 own_equations (Some left) site kind at made = refl
@@ -136,22 +126,13 @@ clock_targets at e u v made start is =
     more (with_equation made at (EventOf (signal_id e) (signal_in u))) at (EventOf (signal_id (suc e)) (signal_in v)) (signal_id (suc e)) start (e ∷ []) refl
     (more made at (EventOf (signal_id e) (signal_in u)) (signal_id e) start [] refl (is ∙ sym (append-nil start)))
 
-plus_targets : (left : Option ℕ) (site : Site) (at : Span) (u v : Operand) (made : Made)
-    → targets (plus left site at u v made).made.equations ≡ targets made.equations ++ next made ∷ suc (next made) ∷ own left (with_clocks site at made) ∷ []
-plus_targets left site at u v made =
+clocked_targets : (left : Option ℕ) (site : Site) (at : Span) (last : SigId → SigId → SigId → Form) (u v : Operand) (made : Made) → ((e f : SigId) → Aims (λ y. last y e f))
+    → targets (clocked left site at last u v made).made.equations ≡ targets made.equations ++ next made ∷ suc (next made) ∷ own left (with_clocks site at made) ∷ []
+clocked_targets left site at last u v made aims =
     let clocks : Made = with_clocks site at made in
     let owned : Made = with_own left site Event at clocks in
-    more (with_clock_equations at (next made) u v owned) at (Default (signal_id (own left clocks)) (signal_id (next made)) (signal_id (suc (next made))))
-    (signal_id (own left clocks)) (targets made.equations) (next made ∷ suc (next made) ∷ []) refl
-    (clock_targets at (next made) u v owned (targets made.equations) (ap targets (own_equations left site Event at clocks)))
-
-meet_targets : (left : Option ℕ) (site : Site) (at : Span) (u v : Operand) (made : Made)
-    → targets (meet left site at u v made).made.equations ≡ targets made.equations ++ next made ∷ suc (next made) ∷ own left (with_clocks site at made) ∷ []
-meet_targets left site at u v made =
-    let clocks : Made = with_clocks site at made in
-    let owned : Made = with_own left site Event at clocks in
-    more (with_clock_equations at (next made) u v owned) at (When (signal_id (own left clocks)) (signal_id (next made)) (signal_id (suc (next made))))
-    (signal_id (own left clocks)) (targets made.equations) (next made ∷ suc (next made) ∷ []) refl
+    more (with_clock_equations at (next made) u v owned) at (last (signal_id (own left clocks)) (signal_id (next made)) (signal_id (suc (next made))))
+    (signal_id (own left clocks)) (targets made.equations) (next made ∷ suc (next made) ∷ []) (aims _ _ _)
     (clock_targets at (next made) u v owned (targets made.equations) (ap targets (own_equations left site Event at clocks)))
 
 less_targets : (left : Option ℕ) (site : Site) (at : Span) (u v : Operand) (made : Made)
@@ -199,7 +180,7 @@ cell_targets left site init at x b =
 
 -- what the operators on clocks define
 own_more : (site : Site) (kind : Kind) (at : Span) (made : Made) → length (with_own None site kind at made).signals ≡ length made.signals + 1
-own_more site kind at made = signals_more site kind at made
+own_more site kind at made = signal_more site kind at made
 
 clock_plain : (site : Site) (at : Span) (made after : Made) → after.signals ≡ (with_own None site Event at (with_clocks site at made)).signals
     → targets after.equations ≡ targets made.equations ++ next made ∷ suc (next made) ∷ next (with_clocks site at made) ∷ [] → Plain made after
@@ -230,8 +211,8 @@ clock_around left site at made after same defined =
 
 truths_more : (site : Site) (at : Span) (made : Made) → length (with_signal site Boolean at (with_signal site Boolean at made)).signals ≡ length made.signals + 2
 truths_more site at made =
-    let one = signals_more site Boolean at made in
-    let two = signals_more site Boolean at (with_signal site Boolean at made) in
+    let one = signal_more site Boolean at made in
+    let two = signal_more site Boolean at (with_signal site Boolean at made) in
     omega arith
 
 less_plain : (site : Site) (at : Span) (u v : Operand) (made : Made) → Plain made (less None site at u v made).made
@@ -270,7 +251,7 @@ events_more : (site : Site) (at : Span) (made : Made)
     → length (with_signal site Event at (with_signal site Event at (with_signal site Event at made))).signals ≡ length made.signals + 3
 events_more site at made =
     let two = clocks_more site at made in
-    let three = signals_more site Event at (with_clocks site at made) in
+    let three = signal_more site Event at (with_clocks site at made) in
     omega arith
 
 cell_plain : (site : Site) (init : ℤ) (at : Span) (x b : Translated) → Plain b.made (cell None site init at x b).made
@@ -279,8 +260,8 @@ cell_plain site init at x b =
     let kept : Made = with_signal site (stored x.kind) at b.made in
     let owned : Made = with_signal site (stored x.kind) at kept in
     let e : ℕ = next owned in
-    let k = signals_more site (stored x.kind) at b.made in
-    let o = signals_more site (stored x.kind) at kept in
+    let k = signal_more site (stored x.kind) at b.made in
+    let o = signal_more site (stored x.kind) at kept in
     let s = events_more site at owned in
     record {
       count = 5;
@@ -294,7 +275,7 @@ cell_around left site init at x b =
     let n : ℕ = length b.made.signals in
     let kept : Made = with_signal site (stored x.kind) at b.made in
     let e : ℕ = next kept in
-    let k = signals_more site (stored x.kind) at b.made in
+    let k = signal_more site (stored x.kind) at b.made in
     let s = events_more site at kept in
     let e_is : e ≡ n + 1 = omega arith in
     let w_is : suc e ≡ n + 1 + 1 = omega arith in
@@ -312,51 +293,21 @@ abbrev result_of : BinOp → Translated → Translated → Kind
 result_of op u v = kind_of_result (binary_row op).result u.kind (Some v.kind)
 
 binary_plain : (site : Site) (op : BinOp) (at : Span) (u v : Translated) → Plain v.made (binary None site op at u v).made
-binary_plain site Plus at u v = clock_plain site at v.made (plus None site at u.operand v.operand v.made).made refl (plus_targets None site at u.operand v.operand v.made)
-binary_plain site Meet at u v = clock_plain site at v.made (meet None site at u.operand v.operand v.made).made refl (meet_targets None site at u.operand v.operand v.made)
+binary_plain site Plus at u v = clock_plain site at v.made (plus None site at u.operand v.operand v.made).made refl (clocked_targets None site at Default u.operand v.operand v.made (λ e f y. refl))
+binary_plain site Meet at u v = clock_plain site at v.made (meet None site at u.operand v.operand v.made).made refl (clocked_targets None site at When u.operand v.operand v.made (λ e f y. refl))
 binary_plain site Less at u v = less_plain site at u.operand v.operand v.made
 binary_plain site Sampled at u v = one_plain site (result_of Sampled u v) at (binary_form Sampled u.operand v.operand) v.made (sampled_aims u.operand v.operand)
-binary_plain site DefaultOf at u v = one_plain site (result_of DefaultOf u v) at (binary_form DefaultOf u.operand v.operand) v.made (λ y. refl)
-binary_plain site OrOf at u v = one_plain site (result_of OrOf u v) at (binary_form OrOf u.operand v.operand) v.made (λ y. refl)
-binary_plain site XorOf at u v = one_plain site (result_of XorOf u v) at (binary_form XorOf u.operand v.operand) v.made (λ y. refl)
-binary_plain site AndOf at u v = one_plain site (result_of AndOf u v) at (binary_form AndOf u.operand v.operand) v.made (λ y. refl)
-binary_plain site EqOf at u v = one_plain site (result_of EqOf u v) at (binary_form EqOf u.operand v.operand) v.made (λ y. refl)
-binary_plain site NeOf at u v = one_plain site (result_of NeOf u v) at (binary_form NeOf u.operand v.operand) v.made (λ y. refl)
-binary_plain site LtOf at u v = one_plain site (result_of LtOf u v) at (binary_form LtOf u.operand v.operand) v.made (λ y. refl)
-binary_plain site LeOf at u v = one_plain site (result_of LeOf u v) at (binary_form LeOf u.operand v.operand) v.made (λ y. refl)
-binary_plain site GtOf at u v = one_plain site (result_of GtOf u v) at (binary_form GtOf u.operand v.operand) v.made (λ y. refl)
-binary_plain site GeOf at u v = one_plain site (result_of GeOf u v) at (binary_form GeOf u.operand v.operand) v.made (λ y. refl)
-binary_plain site AddOf at u v = one_plain site (result_of AddOf u v) at (binary_form AddOf u.operand v.operand) v.made (λ y. refl)
-binary_plain site SubOf at u v = one_plain site (result_of SubOf u v) at (binary_form SubOf u.operand v.operand) v.made (λ y. refl)
-binary_plain site MulOf at u v = one_plain site (result_of MulOf u v) at (binary_form MulOf u.operand v.operand) v.made (λ y. refl)
-binary_plain site DivOf at u v = one_plain site (result_of DivOf u v) at (binary_form DivOf u.operand v.operand) v.made (λ y. refl)
-binary_plain site ModOf at u v = one_plain site (result_of ModOf u v) at (binary_form ModOf u.operand v.operand) v.made (λ y. refl)
+binary_plain site op at u v = one_plain site (result_of op u v) at (binary_form op u.operand v.operand) v.made (λ y. refl)
 
 binary_around : (left : ℕ) (site : Site) (op : BinOp) (at : Span) (u v : Translated) → Around left v.made (binary (Some left) site op at u v).made
-binary_around left site Plus at u v = clock_around left site at v.made (plus (Some left) site at u.operand v.operand v.made).made refl (plus_targets (Some left) site at u.operand v.operand v.made)
-binary_around left site Meet at u v = clock_around left site at v.made (meet (Some left) site at u.operand v.operand v.made).made refl (meet_targets (Some left) site at u.operand v.operand v.made)
+binary_around left site Plus at u v = clock_around left site at v.made (plus (Some left) site at u.operand v.operand v.made).made refl (clocked_targets (Some left) site at Default u.operand v.operand v.made (λ e f y. refl))
+binary_around left site Meet at u v = clock_around left site at v.made (meet (Some left) site at u.operand v.operand v.made).made refl (clocked_targets (Some left) site at When u.operand v.operand v.made (λ e f y. refl))
 binary_around left site Less at u v = less_around left site at u.operand v.operand v.made
 binary_around left site Sampled at u v = one_around left site (result_of Sampled u v) at (binary_form Sampled u.operand v.operand) v.made (sampled_aims u.operand v.operand)
-binary_around left site DefaultOf at u v = one_around left site (result_of DefaultOf u v) at (binary_form DefaultOf u.operand v.operand) v.made (λ y. refl)
-binary_around left site OrOf at u v = one_around left site (result_of OrOf u v) at (binary_form OrOf u.operand v.operand) v.made (λ y. refl)
-binary_around left site XorOf at u v = one_around left site (result_of XorOf u v) at (binary_form XorOf u.operand v.operand) v.made (λ y. refl)
-binary_around left site AndOf at u v = one_around left site (result_of AndOf u v) at (binary_form AndOf u.operand v.operand) v.made (λ y. refl)
-binary_around left site EqOf at u v = one_around left site (result_of EqOf u v) at (binary_form EqOf u.operand v.operand) v.made (λ y. refl)
-binary_around left site NeOf at u v = one_around left site (result_of NeOf u v) at (binary_form NeOf u.operand v.operand) v.made (λ y. refl)
-binary_around left site LtOf at u v = one_around left site (result_of LtOf u v) at (binary_form LtOf u.operand v.operand) v.made (λ y. refl)
-binary_around left site LeOf at u v = one_around left site (result_of LeOf u v) at (binary_form LeOf u.operand v.operand) v.made (λ y. refl)
-binary_around left site GtOf at u v = one_around left site (result_of GtOf u v) at (binary_form GtOf u.operand v.operand) v.made (λ y. refl)
-binary_around left site GeOf at u v = one_around left site (result_of GeOf u v) at (binary_form GeOf u.operand v.operand) v.made (λ y. refl)
-binary_around left site AddOf at u v = one_around left site (result_of AddOf u v) at (binary_form AddOf u.operand v.operand) v.made (λ y. refl)
-binary_around left site SubOf at u v = one_around left site (result_of SubOf u v) at (binary_form SubOf u.operand v.operand) v.made (λ y. refl)
-binary_around left site MulOf at u v = one_around left site (result_of MulOf u v) at (binary_form MulOf u.operand v.operand) v.made (λ y. refl)
-binary_around left site DivOf at u v = one_around left site (result_of DivOf u v) at (binary_form DivOf u.operand v.operand) v.made (λ y. refl)
-binary_around left site ModOf at u v = one_around left site (result_of ModOf u v) at (binary_form ModOf u.operand v.operand) v.made (λ y. refl)
+binary_around left site op at u v = one_around left site (result_of op u v) at (binary_form op u.operand v.operand) v.made (λ y. refl)
 
 -- an expression, and a whole right side
 pub translate_plain : (site : Site) (e : FlatExpression) (made : Made) → Plain made (translate None site e made).made
-translate_plain site (SigOf number at) made = none_made made
-translate_plain site (ConstOf value kind at) made = none_made made
 translate_plain site (Unary op operand at) made =
     let x : Translated = translate None site operand made in
     plain_then (translate_plain site operand made) (one_plain site (kind_of_result (unary_row op).result x.kind None) at (unary_form op x.operand) x.made (unary_aims op x.operand))
@@ -371,6 +322,7 @@ translate_plain site (Cell operand held init at) made =
     let x : Translated = translate None site operand made in
     let b : Translated = translate None site held x.made in
     plain_then (translate_plain site operand made) (plain_then (translate_plain site held x.made) (cell_plain site init at x b))
+translate_plain site _ made = none_made made
 
 pub translate_around : (left : ℕ) (site : Site) (e : FlatExpression) (made : Made) → is_constant e ≡ false → Around left made (translate (Some left) site e made).made
 translate_around left site (SigOf number at) made signal = one_around left site (kind_at made.signals left) at (λ y. Fun y Id (Sig (signal_id number) ∷ [])) made (λ y. refl)

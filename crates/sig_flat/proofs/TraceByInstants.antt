@@ -1,12 +1,11 @@
 -- The traces of a kernel and those of the flat body, one instant after another.
-use Rattle.sig_flat.proofs.Common.{◌≡◌, ◌≤◌, ◌<◌, ℕ, zero, suc, List, [], ◌∷◌, length, take, refl, sym, ap, subst, ◌∙◌, arith, append-nil, AllByRecursion, Signal as Declared, Instant, Trace, Bounded, AreOfKinds, IsKernelTrace, FlatEquation, FlatBody, kinds_of, HoldsAt, HoldThroughout, IsTraceOf, IsProcessTrace, EquationSteps, BodySteps, IsWellMade, Made, next as next_signal, kernel_of, restricted}
+use Rattle.sig_flat.proofs.Common.{◌≡◌, ◌≤◌, ◌<◌, ℕ, zero, suc, List, [], ◌∷◌, length, take, refl, sym, ap, subst, ◌∙◌, arith, append-nil, AllByRecursion, Signal as Declared, Instant, Trace, Bounded, AreOfKinds, IsKernelTrace, FlatEquation, FlatBody, kinds_of, HoldsAt, HoldThroughout, IsTraceOf, IsProcessTrace, EquationSteps, BodySteps, IsWellMade, Made, next as next_signal, kernel_of, restricted, with_flat_equations}
 use Rattle.sig_flat.proofs.Agreement.{Agree, agree_then, agree_back, Fitting, fitting, Suits, kinds_length, kinds_begin, take_agrees, begins_with, same_instant}
-use Rattle.sig_flat.proofs.AddedBehind.{Grows, equations_grow}
+use Rattle.sig_flat.proofs.AddedBehind.{equations_grow}
 use Rattle.sig_flat.proofs.Instants.{behind_made, Runs, runs_from, trace_from}
 use Rattle.sig_flat.proofs.TranslationCases.{Met}
 use Rattle.sig_flat.proofs.AddedSignals.{Over, over_then, over_size}
 use Rattle.sig_flat.proofs.ExpressionValues.{OneStep, made_fits}
-use Rattle.sig_flat.proofs.TranslatedEquations.{all_turned, all_turned_is}
 use Rattle.sig_flat.proofs.MetTranslations.{Goes, BodySays, AreMade, body_says, body_at, body_goes, body_stays}
 
 -- what is said of equations that are read one instant at a time
@@ -31,9 +30,8 @@ hold_now read (q ∷ qs) (n ∷ nexts) now t a = (read.holds q n now t a.0, hold
 
 hold_behind : ReadByInstants → (qs nexts : List FlatEquation) (now : Instant) (t : Trace) (i : ℕ) → BodySteps now qs nexts → AllByRecursion (HoldsAt (now ∷ t) (suc i)) qs → AllByRecursion (HoldsAt t i) nexts
 hold_behind read [] [] now t i a h = tt
-hold_behind read [] (n ∷ nexts) now t i a h = absurd a
-hold_behind read (q ∷ qs) [] now t i a h = absurd a
 hold_behind read (q ∷ qs) (n ∷ nexts) now t i a h = (read.behind q n now t a.0 i h.0, hold_behind read qs nexts now t i a.1 h.1)
+hold_behind read _ _ now t i a h = absurd a
 
 hold_later : ReadByInstants → (qs nexts : List FlatEquation) (now : Instant) (t : Trace) (i : ℕ) → BodySteps now qs nexts → AllByRecursion (HoldsAt t i) nexts → AllByRecursion (HoldsAt (now ∷ t) (suc i)) qs
 hold_later read [] nexts now t i a h = tt
@@ -54,9 +52,9 @@ start signals = record { signals = signals; equations = [] }
 over_start : (signals : List Declared) → Over signals (start signals)
 over_start signals = record { more = []; is = sym (append-nil signals) }
 
-over_all : (signals : List Declared) (qs : List FlatEquation) → Over signals (all_turned qs (start signals))
-over_all signals qs = over_then signals (start signals) (all_turned qs (start signals)) (over_start signals)
-    (subst (λ (m : Made). Grows (start signals) m) (all_turned_is qs (start signals)) (equations_grow qs (start signals)))
+over_all : (signals : List Declared) (qs : List FlatEquation) → Over signals (with_flat_equations qs (start signals))
+over_all signals qs = over_then signals (start signals) (with_flat_equations qs (start signals)) (over_start signals)
+    (equations_grow qs (start signals))
 
 abbrev RunsOf : Made → Trace → Type 0
 RunsOf made trace = Runs (kinds_of made.signals) made.equations trace
@@ -65,11 +63,11 @@ runs_as : (a b : Made) (trace : Trace) → a ≡ b → RunsOf a trace → RunsOf
 runs_as a b trace e h = subst (λ (m : Made). RunsOf m trace) e h
 
 -- from a trace of the kernel
-holds_in : ReadByInstants → (signals : List Declared) (qs : List FlatEquation) (trace : Trace) → AreMade signals qs → RunsOf (all_turned qs (start signals)) trace
+holds_in : ReadByInstants → (signals : List Declared) (qs : List FlatEquation) (trace : Trace) → AreMade signals qs → RunsOf (with_flat_equations qs (start signals)) trace
     → IsTraceOf signals (restricted (length signals) trace) × HoldThroughout qs (restricted (length signals) trace)
 holds_in read signals qs [] h runs = (tt, λ i below. absurd (omega arith))
 holds_in read signals qs (now ∷ trace) h runs =
-    let made : Made = all_turned qs (start signals) in
+    let made : Made = with_flat_equations qs (start signals) in
     let over : Over signals made = over_all signals qs in
     let fits : Fitting now = fitting made.signals now runs.0.kinds in
     let suits : Suits signals now = made_fits signals made now over runs.0.kinds in
@@ -89,10 +87,10 @@ holds_in read signals qs (now ∷ trace) h runs =
 
 -- from a trace of the process
 goes_on : ReadByInstants → (signals : List Declared) (qs : List FlatEquation) (trace : Trace) → AreMade signals qs → IsTraceOf signals trace → HoldThroughout qs trace
-    → (whole : Trace) × RunsOf (all_turned qs (start signals)) whole × (restricted (length signals) whole ≡ trace)
+    → (whole : Trace) × RunsOf (with_flat_equations qs (start signals)) whole × (restricted (length signals) whole ≡ trace)
 goes_on read signals qs [] h kinds holds = ([], tt, refl)
 goes_on read signals qs (now ∷ trace) h kinds holds =
-    let made : Made = all_turned qs (start signals) in
+    let made : Made = with_flat_equations qs (start signals) in
     let over : Over signals made = over_all signals qs in
     let f = steps_first read qs now trace (holds zero (omega arith)) in
     let g : Goes made (start signals) now = body_goes read.one signals qs f.0 (start signals) now (over_start signals) kinds.0 h f.1 in
@@ -109,22 +107,20 @@ goes_on read signals qs (now ∷ trace) h kinds holds =
     let few : length signals ≤ length made.signals = over_size signals made over in
     let front : take (length signals) g.whole ≡ now = begins_by now g.whole (length signals) size (omega arith) begins in (
       g.whole ∷ r.0,
-      (record { kinds = g.kinds; equations = met }, runs_as (all_turned s.nexts (start signals)) (behind_made g.whole made) r.0 s.is r.1),
+      (record { kinds = g.kinds; equations = met }, runs_as (with_flat_equations s.nexts (start signals)) (behind_made g.whole made) r.0 s.is r.1),
       joined (take (length signals) g.whole) now (restricted (length signals) r.0) trace front r.2,
     )
 
 -- one trace of the kernel for each of the process
-same_traces : ReadByInstants → (signals : List Declared) (qs : List FlatEquation) (a b : Trace) → AreMade signals qs → RunsOf (all_turned qs (start signals)) a → RunsOf (all_turned qs (start signals)) b
+same_traces : ReadByInstants → (signals : List Declared) (qs : List FlatEquation) (a b : Trace) → AreMade signals qs → RunsOf (with_flat_equations qs (start signals)) a → RunsOf (with_flat_equations qs (start signals)) b
     → restricted (length signals) a ≡ restricted (length signals) b → a ≡ b
 same_traces read signals qs [] [] h ra rb e = refl
-same_traces read signals qs [] (y ∷ b) h ra rb e = absurd cc
-same_traces read signals qs (x ∷ a) [] h ra rb e = absurd cc
 same_traces read signals qs (x ∷ a) (y ∷ b) h ra rb e =
     let count : ℕ = length signals in
     let here : Instant = take count x in
     let fronts : here ≡ take count y = cc in
     let rests : restricted count a ≡ restricted count b = cc in
-    let made : Made = all_turned qs (start signals) in
+    let made : Made = with_flat_equations qs (start signals) in
     let over : Over signals made = over_all signals qs in
     let x_fits : Fitting x = fitting made.signals x ra.0.kinds in
     let y_fits : Fitting y = fitting made.signals y rb.0.kinds in
@@ -142,14 +138,15 @@ same_traces read signals qs (x ∷ a) (y ∷ b) h ra rb e =
     let agree : Agree (next_signal made) x y = agree_then (next_signal made) x g.whole y (agree_back (next_signal made) g.whole x from_x) from_y in
     let same : x ≡ y = same_instant x y (x_size ∙ sym y_size) (subst (λ n. Agree n x y) (sym x_size) agree) in
     let next_made = body_stays signals x suits qs s.nexts h s.steps in
-    let runs_a : RunsOf (all_turned s.nexts (start signals)) a = subst (λ (m : Made). RunsOf m a) (sym s.is) ra.1 in
+    let runs_a : RunsOf (with_flat_equations s.nexts (start signals)) a = subst (λ (m : Made). RunsOf m a) (sym s.is) ra.1 in
     let behind_x : RunsOf (behind_made x made) b = subst (λ (i : Instant). RunsOf (behind_made i made) b) (sym same) rb.1 in
-    let runs_b : RunsOf (all_turned s.nexts (start signals)) b = subst (λ (m : Made). RunsOf m b) (sym s.is) behind_x in
+    let runs_b : RunsOf (with_flat_equations s.nexts (start signals)) b = subst (λ (m : Made). RunsOf m b) (sym s.is) behind_x in
     joined x y a b same (same_traces read signals s.nexts a b next_made runs_a runs_b rests)
+same_traces read signals qs _ _ h ra rb e = absurd cc
 
 -- the kernel of a flat body
-kernel_runs : (flat : FlatBody) (trace : Trace) → IsKernelTrace (kernel_of flat) trace → RunsOf (all_turned flat.equations (start flat.signals)) trace
-kernel_runs flat trace h = subst (λ (m : Made). RunsOf m trace) (all_turned_is flat.equations (start flat.signals)) (runs_from (kernel_of flat) trace h)
+kernel_runs : (flat : FlatBody) (trace : Trace) → IsKernelTrace (kernel_of flat) trace → RunsOf (with_flat_equations flat.equations (start flat.signals)) trace
+kernel_runs flat trace h = runs_from (kernel_of flat) trace h
 
 pub process_trace : ReadByInstants → (flat : FlatBody) (trace : Trace) → IsWellMade flat → IsKernelTrace (kernel_of flat) trace → IsProcessTrace flat (restricted (length flat.signals) trace)
 process_trace read flat trace made h =
@@ -160,7 +157,7 @@ pub kernel_trace : ReadByInstants → (flat : FlatBody) (trace : Trace) → IsWe
     → (whole : Trace) × IsKernelTrace (kernel_of flat) whole × (restricted (length flat.signals) whole ≡ trace)
 kernel_trace read flat trace made h =
     let r = goes_on read flat.signals flat.equations trace made.equations h.kinds h.holds in
-    (r.0, trace_from (kernel_of flat) r.0 (subst (λ (m : Made). RunsOf m r.0) (sym (all_turned_is flat.equations (start flat.signals))) r.1), r.2)
+    (r.0, trace_from (kernel_of flat) r.0 r.1, r.2)
 
 pub one_kernel_trace : ReadByInstants → (flat : FlatBody) (a b : Trace) → IsWellMade flat → IsKernelTrace (kernel_of flat) a → IsKernelTrace (kernel_of flat) b
     → restricted (length flat.signals) a ≡ restricted (length flat.signals) b → a ≡ b

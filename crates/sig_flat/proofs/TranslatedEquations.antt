@@ -1,57 +1,16 @@
 -- Instants that meet the equations of a flat equation's translation.
-use Rattle.sig_flat.proofs.Common.{◌≡◌, ℕ, ℤ, Bool, true, false, List, [], ◌∷◌, None, Some, is_some, length, refl, sym, ap, subst, ◌∙◌, inl, inr, ◌⊎◌, AllByRecursion, AllZip, Kind, SigId, Signal as Declared, Span, Seen, Instant, seen_at, Sync, FlatExpression, FlatEquation, Defines, Equal, Steps, IsWhole, Site, Made, Translated, Together, with_equation, signal_in, place_of, translate, operands_from, with_syncs, with_all_syncs, cluster_at, with_flat_equation, with_flat_equations, all_so}
+use Rattle.sig_flat.proofs.Common.{◌≡◌, ℕ, ℤ, Bool, true, false, List, [], ◌∷◌, None, Some, is_some, length, refl, sym, ap, subst, ◌∙◌, inl, inr, ◌⊎◌, AllByRecursion, AllZip, Kind, SigId, Signal as Declared, Span, Seen, Instant, seen_at, Sync, FlatExpression, Steps, IsWhole, Site, Made, with_equation, with_syncs, with_all_syncs, cluster_at, all_so}
 use Rattle.sig_tree.specs.Operators.{Signal}
 use Rattle.sig_flat.proofs.Agreement.{Agree}
-use Rattle.sig_flat.proofs.AddedBehind.{Grows, equation_grows}
 use Rattle.sig_flat.proofs.Instants.{behind_made}
 use Rattle.sig_flat.proofs.Kinded.{steps_same}
-use Rattle.sig_flat.proofs.TranslationCases.{translation, translation_is, Met, equation_met, equation_meets, equation_behind}
-
--- equations, by the translations of expressions
-abbrev pub with_head : Site → FlatExpression → List FlatExpression → (List FlatExpression → Made → Together) → Translated → Together
-with_head site e es rest x = record { signals = (signal_in x.operand, place_of e) ∷ (rest es x.made).signals; made = (rest es x.made).made }
-
-abbrev pub turned_operands : Site → List FlatExpression → Made → Together
-turned_operands site [] made = record { signals = []; made = made }
-turned_operands site (e ∷ es) made =
-    let x : Translated = translation None site e made in
-    let rest : Together = turned_operands site es x.made in
-    record { signals = (signal_in x.operand, place_of e) ∷ rest.signals; made = rest.made }
+use Rattle.sig_flat.proofs.TranslationCases.{Met, equation_met, equation_meets, equation_behind}
 
 abbrev pub site_of : ℕ → List ℕ → Made → Site
 site_of left prefix made = record { cluster = cluster_at made.signals left; prefix = prefix }
 
 abbrev pub shared : List ℕ → Site
 shared prefix = record { cluster = 0; prefix = prefix }
-
-abbrev pub turned : FlatEquation → Made → Made
-turned (Defines left e prefix) made = (translation (Some left) (site_of left prefix made) e made).made
-turned (Equal operands prefix) made = with_all_syncs (turned_operands (shared prefix) operands made).signals (turned_operands (shared prefix) operands made).made
-
-abbrev pub all_turned : List FlatEquation → Made → Made
-all_turned [] made = made
-all_turned (q ∷ qs) made = all_turned qs (turned q made)
-
-operands_are : (site : Site) (es : List FlatExpression) (made : Made) → operands_from site es made ≡ turned_operands site es made
-operands_are site [] made = refl
-operands_are site (e ∷ es) made =
-    let x : Translated = translate None site e made in
-    ap (λ (t : Together). record { signals = (signal_in x.operand, place_of e) ∷ t.signals; made = t.made }) (operands_are site es x.made)
-    ∙ ap (with_head site e es (turned_operands site)) (translation_is None site e made)
-
-abbrev synced : Together → Made
-synced t = with_all_syncs t.signals t.made
-
-turned_is : (q : FlatEquation) (made : Made) → with_flat_equation q made ≡ turned q made
-turned_is (Defines left e prefix) made = ap (λ (t : Translated). t.made) (translation_is (Some left) (site_of left prefix made) e made)
-turned_is (Equal operands prefix) made = ap synced (operands_are (shared prefix) operands made)
-
-pub all_turned_is : (qs : List FlatEquation) (made : Made) → with_flat_equations qs made ≡ all_turned qs made
-all_turned_is [] made = refl
-all_turned_is (q ∷ qs) made = all_turned_is qs (with_flat_equation q made) ∙ ap (all_turned qs) (turned_is q made)
-
-pub turned_grows : (q : FlatEquation) (made : Made) → Grows made (turned q made)
-turned_grows q made = subst (λ (m : Made). Grows made m) (turned_is q made) (equation_grows q made)
 
 -- clock equations: all of them are present, or none is
 abbrev pub number_in : SigId × Span → ℕ
@@ -119,9 +78,8 @@ some_of (Some v) e = (v, refl)
 pub zip_through : (P : FlatExpression → Type 0) (R S : FlatExpression → FlatExpression → Type 0) → ((e rest : FlatExpression) → P e → R e rest → S e rest)
     → (es rests : List FlatExpression) → AllByRecursion P es → AllZip R es rests → AllZip S es rests
 zip_through P R S f [] [] h a = tt
-zip_through P R S f [] (r ∷ rests) h a = absurd a
-zip_through P R S f (e ∷ es) [] h a = absurd a
 zip_through P R S f (e ∷ es) (r ∷ rests) h a = (f e r h.0 a.0, zip_through P R S f es rests h.1 a.1)
+zip_through P R S f _ _ h a = absurd a
 
 abbrev pub AreWhole : List Declared → List FlatExpression → Type 0
 AreWhole signals es = AllByRecursion (λ e. (kind : Kind) × IsWhole signals e kind) es

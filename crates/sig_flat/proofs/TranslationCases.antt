@@ -1,12 +1,8 @@
--- Translations once more, by cases on the expression alone, and what a translation adds to what was made.
-use Rattle.sig_flat.proofs.Common.{◌≡◌, ◌↔◌, ◌++◌, ℕ, ℤ, Bool, true, false, List, [], ◌∷◌, Option, None, Some, map, refl, ap, ◌∙◌, AllByRecursion, Kind, Span, Instant, Bounded, seen_at, Meets, Equation, Form, Fun, Delay, Id, Operand, Sig, UnOp, BinOp, Plus, Meet, Less, FlatExpression, SigOf, Const as ConstOf, Unary, Binary, DelayOf, Cell, unary_row, kind_of_result, stored, is_constant, AreMet, found_at, Site, Made, Translated, with_equation, with_own, by_one, unary_form, kind_at, signal_in, signal_id, made_signal, binary, cell, translate, all_added}
+-- The cases of a translation, and what one adds to what was made.
+use Rattle.sig_flat.proofs.Common.{◌≡◌, ◌↔◌, ◌++◌, ℕ, ℤ, Bool, true, false, List, [], ◌∷◌, Option, None, Some, map, refl, ap, ◌∙◌, AllByRecursion, Kind, Span, Instant, Bounded, seen_at, Meets, Equation, Form, Delay, Operand, Sig, UnOp, BinOp, Plus, Meet, Less, FlatExpression, SigOf, Const as ConstOf, Unary, Binary, DelayOf, Cell, unary_row, kind_of_result, stored, is_constant, AreMet, found_at, Site, Made, Translated, with_equation, with_own, by_one, unary_form, signal_in, signal_id, binary, cell, translate, all_added}
 use Rattle.sig_kernel.specs.declared.equation.Operand.TheVariants.{Const}
 use Rattle.sig_tree.specs.Operators.{Signal}
 use Rattle.sig_flat.proofs.Instants.{at_first, behind_form, behind_equation, behind_equations, MeetAll, behind_made}
-
-abbrev pub named : Option ℕ → Site → ℕ → Span → Made → Translated
-named None site number at made = made_signal number (kind_at made.signals number) made
-named (Some left) site number at made = by_one (Some left) site (kind_at made.signals left) at (λ y. Fun y Id (Sig (signal_id number) ∷ [])) made
 
 abbrev pub unary_of : Option ℕ → Site → UnOp → Span → Translated → Translated
 unary_of left site op at x = by_one left site (kind_of_result (unary_row op).result x.kind None) at (unary_form op x.operand) x.made
@@ -14,41 +10,11 @@ unary_of left site op at x = by_one left site (kind_of_result (unary_row op).res
 abbrev pub delay_of : Option ℕ → Site → ℤ → Span → Translated → Translated
 delay_of left site init at x = by_one left site (stored x.kind) at (λ y. Delay y (signal_in x.operand) init) x.made
 
-abbrev pub translation : Option ℕ → Site → FlatExpression → Made → Translated
-translation left site (SigOf number at) made = named left site number at made
-translation left site (ConstOf value kind at) made = record { operand = Const value; kind = kind; made = made }
-translation left site (Unary op operand at) made = unary_of left site op at (translation None site operand made)
-translation left site (Binary op first second at) made =
-    let u : Translated = translation None site first made in
-    binary left site op at u (translation None site second u.made)
-translation left site (DelayOf operand init at) made = delay_of left site init at (translation None site operand made)
-translation left site (Cell operand held init at) made =
-    let x : Translated = translation None site operand made in
-    cell left site init at x (translation None site held x.made)
-
 abbrev pub after_first : Option ℕ → Site → BinOp → Span → FlatExpression → Translated → Translated
-after_first left site op at second u = binary left site op at u (translation None site second u.made)
+after_first left site op at second u = binary left site op at u (translate None site second u.made)
 
 abbrev pub after_operand : Option ℕ → Site → ℤ → Span → FlatExpression → Translated → Translated
-after_operand left site init at held x = cell left site init at x (translation None site held x.made)
-
-pub translation_is : (left : Option ℕ) (site : Site) (e : FlatExpression) (made : Made) → translate left site e made ≡ translation left site e made
-translation_is None site (SigOf number at) made = refl
-translation_is (Some left) site (SigOf number at) made = refl
-translation_is None site (ConstOf value kind at) made = refl
-translation_is (Some left) site (ConstOf value kind at) made = refl
-translation_is None site (Unary op operand at) made = ap (unary_of None site op at) (translation_is None site operand made)
-translation_is (Some left) site (Unary op operand at) made = ap (unary_of (Some left) site op at) (translation_is None site operand made)
-translation_is None site (Binary op first second at) made = let u : Translated = translate None site first made in
-    ap (binary None site op at u) (translation_is None site second u.made) ∙ ap (after_first None site op at second) (translation_is None site first made)
-translation_is (Some left) site (Binary op first second at) made = let u : Translated = translate None site first made in
-    ap (binary (Some left) site op at u) (translation_is None site second u.made) ∙ ap (after_first (Some left) site op at second) (translation_is None site first made)
-translation_is None site (DelayOf operand init at) made = ap (delay_of None site init at) (translation_is None site operand made)
-translation_is (Some left) site (DelayOf operand init at) made = ap (delay_of (Some left) site init at) (translation_is None site operand made)
-translation_is None site (Cell operand held init at) made = let x : Translated = translate None site operand made in
-    ap (cell None site init at x) (translation_is None site held x.made) ∙ ap (after_operand None site init at held) (translation_is None site operand made)
-translation_is (Some left) site (Cell operand held init at) made = let x : Translated = translate None site operand made in
-    ap (cell (Some left) site init at x) (translation_is None site held x.made) ∙ ap (after_operand (Some left) site init at held) (translation_is None site operand made)
+after_operand left site init at held x = cell left site init at x (translate None site held x.made)
 
 -- operands that are constants, and operators that are several equations
 abbrev pub is_fixed : Operand → Bool
@@ -67,35 +33,28 @@ found_signal now (Const c) h = absurd cc
 
 binary_is_signal : (left : Option ℕ) (site : Site) (op : BinOp) (at : Span) (u v : Translated) → is_fixed (binary left site op at u v).operand ≡ false
 binary_is_signal left site Plus at u v = refl
-binary_is_signal left site Meet at u v = refl
-binary_is_signal left site Less at u v = refl
 binary_is_signal left site _ at u v = refl
 
-pub is_fixed_where : (left : Option ℕ) (site : Site) (e : FlatExpression) (made : Made) → is_fixed (translation left site e made).operand ≡ is_constant e
+pub is_fixed_where : (left : Option ℕ) (site : Site) (e : FlatExpression) (made : Made) → is_fixed (translate left site e made).operand ≡ is_constant e
 is_fixed_where None site (SigOf number at) made = refl
 is_fixed_where (Some left) site (SigOf number at) made = refl
 is_fixed_where left site (ConstOf value kind at) made = refl
 is_fixed_where left site (Unary op operand at) made = refl
-is_fixed_where left site (Binary op first second at) made = let u : Translated = translation None site first made in
-    binary_is_signal left site op at u (translation None site second u.made)
+is_fixed_where left site (Binary op first second at) made = let u : Translated = translate None site first made in
+    binary_is_signal left site op at u (translate None site second u.made)
 is_fixed_where left site (DelayOf operand init at) made = refl
 is_fixed_where left site (Cell operand held init at) made = refl
 
 -- the signal that a definition defines
 binary_is_left : (left : ℕ) (site : Site) (op : BinOp) (at : Span) (u v : Translated) → (binary (Some left) site op at u v).operand ≡ Sig (signal_id left)
 binary_is_left left site Plus at u v = refl
-binary_is_left left site Meet at u v = refl
-binary_is_left left site Less at u v = refl
 binary_is_left left site _ at u v = refl
 
-pub is_left : (left : ℕ) (site : Site) (e : FlatExpression) (made : Made) → is_constant e ≡ false → (translation (Some left) site e made).operand ≡ Sig (signal_id left)
-is_left left site (SigOf number at) made h = refl
+pub is_left : (left : ℕ) (site : Site) (e : FlatExpression) (made : Made) → is_constant e ≡ false → (translate (Some left) site e made).operand ≡ Sig (signal_id left)
 is_left left site (ConstOf value kind at) made h = absurd cc
-is_left left site (Unary op operand at) made h = refl
-is_left left site (Binary op first second at) made h = let u : Translated = translation None site first made in
-    binary_is_left left site op at u (translation None site second u.made)
-is_left left site (DelayOf operand init at) made h = refl
-is_left left site (Cell operand held init at) made h = refl
+is_left left site (Binary op first second at) made h = let u : Translated = translate None site first made in
+    binary_is_left left site op at u (translate None site second u.made)
+is_left left site _ made h = refl
 
 -- an instant meets all equations that were made
 abbrev pub Met : Instant → Made → Type 0

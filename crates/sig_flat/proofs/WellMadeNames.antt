@@ -1,5 +1,5 @@
 -- A well-made flat body names its signals, and each of its operators has an operand that is no constant.
-use Rattle.sig_flat.proofs.Common.{◌≡◌, ◌⊎◌, Bool, true, false, List, [], ◌∷◌, length, refl, sym, inl, inr, arith, false≢true, AllByRecursion, Kind, Signal, is_constant, Allows, IsMade, IsWhole, IsMadeEquation, FlatExpression, Const, Unary, Binary, Cell, FlatEquation, Defines, Equal, ConstantRule, NoConstant, OneConstant, FirstConstant, binary_row, NamesBelow, IsBelow, IsSignal, Speaks, EquationSpeaks}
+use Rattle.sig_flat.proofs.Common.{◌≡◌, ◌⊎◌, Bool, false, List, [], ◌∷◌, length, refl, sym, inl, inr, arith, false≢true, AllByRecursion, Kind, Signal, is_constant, Allows, IsMade, IsWhole, IsMadeEquation, FlatExpression, Const, Unary, Binary, Cell, FlatEquation, Defines, Equal, ConstantRule, NoConstant, OneConstant, binary_row, NamesBelow, IsBelow, IsSignal, Speaks, EquationSpeaks}
 use Rattle.sig_tree.specs.FlatSyntax.{Sig, Delay}
 use Rattle.sig_flat.proofs.NumberedKinds.{kind_below}
 
@@ -24,31 +24,25 @@ equations_below signals (Equal operands prefix ∷ qs) made = (all_below signals
 
 -- what is no constant is a signal's expression
 pub is_signal : (e : FlatExpression) → is_constant e ≡ false → IsSignal e
-is_signal (Sig number at) free = tt
 is_signal (Const value kind at) free = absurd (false≢true (sym free))
-is_signal (Unary op operand at) free = tt
-is_signal (Binary op first second at) free = tt
-is_signal (Delay operand init at) free = tt
-is_signal (Cell operand held init at) free = tt
+is_signal _ free = tt
 
 one_of : (rule : ConstantRule) (first second : Bool) → Allows rule first second → (first ≡ false) ⊎ (second ≡ false)
 one_of NoConstant first second allowed = inl allowed.0
 one_of OneConstant false second allowed = inl refl
-one_of OneConstant true second allowed = inr allowed
-one_of FirstConstant first second allowed = inr allowed
+one_of _ _ second allowed = inr allowed
 
 one_signal : (first second : FlatExpression) → (is_constant first ≡ false) ⊎ (is_constant second ≡ false) → IsSignal first ⊎ IsSignal second
 one_signal first second (inl free) = inl (is_signal first free)
 one_signal first second (inr free) = inr (is_signal second free)
 
 pub speaks : (signals : List Signal) (e : FlatExpression) → IsMade signals e → Speaks e
-speaks signals (Sig number at) made = tt
-speaks signals (Const value kind at) made = tt
 speaks signals (Unary op operand at) made = (is_signal operand made.0, speaks signals operand made.1)
 speaks signals (Binary op first second at) made =
     (one_signal first second (one_of (binary_row op).constants (is_constant first) (is_constant second) made.0), speaks signals first made.1, speaks signals second made.2)
 speaks signals (Delay operand init at) made = speaks signals operand made.1
 speaks signals (Cell operand held init at) made = (speaks signals operand made.2, speaks signals held made.3)
+speaks signals _ made = tt
 
 all_speak : (signals : List Signal) (es : List FlatExpression) → AllByRecursion (λ (e : FlatExpression). (kind : Kind) × IsWhole signals e kind) es → AllByRecursion Speaks es
 all_speak signals [] made = tt

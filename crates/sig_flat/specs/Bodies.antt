@@ -23,12 +23,8 @@ pub record NamesItsSignals (flat : FlatBody) : Type 0 where
 
 -- no constant
 abbrev pub IsSignal : FlatExpression → Type 0
-IsSignal (Sig number at) = ⊤
 IsSignal (Const value kind at) = ⊥
-IsSignal (Unary op operand at) = ⊤
-IsSignal (Binary op first second at) = ⊤
-IsSignal (Delay operand init at) = ⊤
-IsSignal (Cell operand held init at) = ⊤
+IsSignal _ = ⊤
 
 -- each operator has an operand that is no constant
 abbrev pub Speaks : FlatExpression → Type 0

@@ -104,21 +104,21 @@ abbrev pub with_clock_equations : Span → ℕ → Operand → Operand → Made 
 with_clock_equations at e u v made =
     with_equation (with_equation made at (EventOf (signal_id e) (signal_in u))) at (EventOf (signal_id (suc e)) (signal_in v))
 
--- U ^+ V: e is ^U, f is ^V, and Y is e default f
-abbrev pub plus : Option ℕ → Site → Span → Operand → Operand → Made → Translated
-plus left site at u v made =
+-- an operator on the clocks of both: e is ^U, f is ^V, and the last equation says what Y is of e and f
+abbrev pub clocked : Option ℕ → Site → Span → (SigId → SigId → SigId → Form) → Operand → Operand → Made → Translated
+clocked left site at last u v made =
     let clocks : Made = with_clocks site at made in
     let y : ℕ = own left clocks in
     made_signal y Event (with_equation (with_clock_equations at (next made) u v (with_own left site Event at clocks)) at
-    (Default (signal_id y) (signal_id (next made)) (signal_id (suc (next made)))))
+    (last (signal_id y) (signal_id (next made)) (signal_id (suc (next made)))))
 
--- U ^* V: e is ^U, f is ^V, and Y is e when f
+-- U ^+ V: Y is e default f
+abbrev pub plus : Option ℕ → Site → Span → Operand → Operand → Made → Translated
+plus left site at u v made = clocked left site at Default u v made
+
+-- U ^* V: Y is e when f
 abbrev pub meet : Option ℕ → Site → Span → Operand → Operand → Made → Translated
-meet left site at u v made =
-    let clocks : Made = with_clocks site at made in
-    let y : ℕ = own left clocks in
-    made_signal y Event (with_equation (with_clock_equations at (next made) u v (with_own left site Event at clocks)) at
-    (When (signal_id y) (signal_id (next made)) (signal_id (suc (next made)))))
+meet left site at u v made = clocked left site at When u v made
 
 -- U ^- V: e is ^U, f is ^V, z is not f, w is z default e, and Y is when w
 abbrev pub less : Option ℕ → Site → Span → Operand → Operand → Made → Translated
@@ -166,11 +166,15 @@ kind_at [] number = Integer
 kind_at (signal ∷ signals) zero = signal.kind
 kind_at (signal ∷ signals) (suc number) = kind_at signals number
 
+-- a name: its signal, or that of the left side, which has its value
+abbrev pub named : Option ℕ → Site → ℕ → Span → Made → Translated
+named None site number at made = made_signal number (kind_at made.signals number) made
+named (Some left) site number at made =
+    by_one (Some left) site (kind_at made.signals left) at (λ y. Fun y Id (Sig (signal_id number) ∷ [])) made
+
 -- an expression: its operands first, left to right
 abbrev pub translate : Option ℕ → Site → FlatExpression → Made → Translated
-translate None site (SigOf number at) made = made_signal number (kind_at made.signals number) made
-translate (Some left) site (SigOf number at) made =
-    by_one (Some left) site (kind_at made.signals left) at (λ y. Fun y Id (Sig (signal_id number) ∷ [])) made
+translate left site (SigOf number at) made = named left site number at made
 translate left site (ConstOf value kind at) made = record { operand = Const value; kind = kind; made = made }
 translate left site (Unary op operand at) made =
     let x : Translated = translate None site operand made in

@@ -20,13 +20,11 @@ within_64 (c ∷ cs) within = signed (c == 45) (digits_value 10 cs) (digits_valu
 
 integer_good : (numeral within : Bool) (v : ℤ) → (within ≡ true → has_64_bits v ≡ true) → IsGood Integer (if numeral then (if within then Ok v else Err Outside) else Err Bad)
 integer_good true true v fits = fits refl
-integer_good true false v fits = tt
-integer_good false within v fits = tt
+integer_good _ _ v fits = tt
 
 boolean_good : (a b : Bool) → IsGood Boolean (if a then Ok (pos 1) else if b then Ok (pos 0) else Err Bad)
-boolean_good true b = refl
-boolean_good false true = refl
 boolean_good false false = tt
+boolean_good _ _ = refl
 
 event_good : (a : Bool) → IsGood Event (if a then Ok (pos 1) else Err Bad)
 event_good true = refl

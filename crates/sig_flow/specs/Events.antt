@@ -18,10 +18,8 @@ event_named name number =
 
 -- the event that the words of a line are: `act` or `look`, and 1 to 9 digits
 abbrev pub event_of : List Word → Option FileEvent
-event_of [] = None
-event_of (name ∷ []) = None
 event_of (name ∷ digits ∷ []) = elim (short_number digits.text) [ None ↦ None | Some number ↦ event_named name.text number ]
-event_of (name ∷ digits ∷ other ∷ words) = None
+event_of _ = None
 
 -- a line with words that are no event is bad, and so is an event behind as many as there may be
 abbrev pub event_fault : ℕ → ℕ → List Word → Option EventAnswer

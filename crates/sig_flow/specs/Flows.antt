@@ -95,11 +95,9 @@ flow_in version lines input = flat_map (λ line. values_for version input (words
 
 -- the words by which a file of version 2 begins: `flows` and `2`, where no input is named `flows`
 abbrev pub is_header : List Signal → List Word → Bool
-is_header inputs [] = false
-is_header inputs (first ∷ []) = false
 is_header inputs (first ∷ second ∷ []) =
     bytes_eq first.text (codes "flows") && bytes_eq second.text (codes "2") && is_none (kind_named inputs (codes "flows"))
-is_header inputs (first ∷ second ∷ third ∷ words) = false
+is_header inputs _ = false
 
 -- the version of a file, and the lines that hold its flows
 pub record Body : Type 0 where

@@ -1,5 +1,5 @@
 -- How often numbers stand in lists, and how many of them are left.
-use Rattle.sig_graph.proofs.Common.{◌≡◌, ◌≢◌, ◌<◌, ◌≤◌, ◌+◌, ◌⊎◌, inl, inr, ◌↔◌, ℕ, Bool, true, false, List, [], ◌∷◌, ◌++◌, length, map, get_or, set, replicate, refl, sym, ap, ◌∙◌, subst, arith, Contains, eqb, eq-eqb, cond, Ordering, zero, suc, not, take, BTreeSet, contains, nat_cmp_is, nat_cmp, is_eq, Less, Equal, Greater, cases_order, eqb-true, ne_eqb, false≢true, get_or-map, get_or-set_other, get_or-set_same, get_or_past, get_or-take, length-map, length-set, take_more, Contains-append_cases, Contains-append_left, Contains-append_right, sum_by-append, sum_by-cons, exact_unsigned, IsLeast, Adds, AreSuccessors, Has, Releases, Takes, left_in, occurs, Edge, IsOpen, mark_at, contains_later, contains_none}
+use Rattle.sig_graph.proofs.Common.{◌≡◌, ◌≢◌, ◌<◌, ◌≤◌, ◌+◌, ◌⊎◌, inl, inr, ◌↔◌, ℕ, Bool, true, false, List, [], ◌∷◌, ◌++◌, length, map, get_or, set, replicate, refl, sym, ap, ◌∙◌, subst, arith, Contains, eqb, eq-eqb, cond, Ordering, zero, suc, not, take, BTreeSet, contains, nat_cmp_is, nat_cmp, is_eq, Equal, cases_order, eqb-true, ne_eqb, false≢true, get_or-map, get_or-set_other, get_or-set_same, get_or_past, get_or-take, length-map, length-set, take_more, Contains-append_cases, Contains-append_left, Contains-append_right, sum_by-append, sum_by-cons, exact_unsigned, IsLeast, Adds, AreSuccessors, Has, Releases, Takes, left_in, occurs, Edge, IsOpen, mark_at, contains_later, contains_none}
 use Rattle.sig_graph.proofs.Takings.{marked_more, no_mark, taking_begins, taking_goes_on}
 
 -- 1 where it is so
@@ -152,9 +152,8 @@ some_left numbers i old new was ready lt enough releases =
         omega (arith, a, b, rest)
 
 equal_of : (o : Ordering) → is_eq o ≡ true → o ≡ Equal
-equal_of Less is = absurd (false≢true is)
 equal_of Equal is = refl
-equal_of Greater is = absurd (false≢true is)
+equal_of _ is = absurd (false≢true is)
 
 -- the keys of a set without its least
 pub popped : (old new : BTreeSet ℕ) (k : ℕ) → ((q : ℕ) → contains nat_cmp new q ≡ cond (is_eq (nat_cmp k q)) false (contains nat_cmp old q)) → (q : ℕ) → Has new q ↔ (Has old q × (q ≢ k))

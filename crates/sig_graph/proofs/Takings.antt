@@ -3,9 +3,8 @@ use Rattle.sig_graph.proofs.Common.{◌≡◌, ◌≢◌, ◌<◌, ◌≤◌, �
 use Rattle.sig_graph.proofs.Lists.{failing}
 
 pub no_mark : (n k : ℕ) → mark_at (replicate n false) k ≡ false
-no_mark zero k = refl
-no_mark (suc n) zero = refl
 no_mark (suc n) (suc k) = no_mark n k
+no_mark _ _ = refl
 
 none_marked : (n : ℕ) → marked_count (replicate n false) ≡ 0
 none_marked zero = refl

@@ -7,10 +7,7 @@ module _ (image : ImageView) (right : IsImage image) where
   ends_there (does.Read x) at s cause may ends = subst (λ (c : ImageCause). IsOfImage image c) (sym ends.1) (let within = right.interface in omega (arith, may, within))
   ends_there (does.Fun y op operands) at s cause may (inl over) = subst (λ (c : ImageCause). IsOfImage image c) (sym over.3) tt
   ends_there (does.Fun y op operands) at s cause may (inr divides) = subst (λ (c : ImageCause). IsOfImage image c) (sym divides.3) tt
-  ends_there (does.Copy y x) at s cause may ends = absurd ends
-  ends_there (does.Const y value) at s cause may ends = absurd ends
-  ends_there (does.DelayRead y memory) at s cause may ends = absurd ends
-  ends_there (does.Store memory x) at s cause may ends = absurd ends
+  ends_there kind at s cause may ends = absurd ends
 
   ends_in : (guards : Guards) (nodes : List ImageNode) (before ops : List ImageOp) (s : State) (cause : ImageCause) → Each (λ before. IsOperation (scope_of image)) before ops
       → EndsIn guards (map (guarded_in nodes) ops) s cause → IsOfImage image cause

@@ -1,6 +1,6 @@
 -- A build with status 0 is one of an accepted program, one with status 10 of one whose image is too long; and a run of an image
 -- with status 0 or 3 is one of a sound image over flows of its inputs.
-use Rattle.sig_image_command.proofs.Common.{◌≡◌, ◌∙◌, ◌⊎◌, ℕ, ℤ, false, List, Option, None, Some, IfSome, inl, inr, refl, sym, ap, subst, arith, Contents, Settings, Kernel, ImageView, Absent, AtFile, Bad, Found, Good, Long, Outcome, long_file, long_program, IsOwn, outcome_of, status_of, IsDue, IsEnded, Owes, Refusal, Missing, ReadFault, LongProgram, Program, Budget, TooManyItems, LongFile, Data, LongImage, OutOfMemory, FindsAccepted, FindsFlows, BuildComesTo, BuildsTo, HasBuilt, HasLongImage, ExecComesTo, ExecutesTo, HasExecuted, inputs_of_image, FindsImage}
+use Rattle.sig_image_command.proofs.Common.{◌≡◌, ◌∙◌, ◌⊎◌, ℕ, ℤ, false, List, Option, None, Some, IfSome, inl, inr, refl, sym, ap, subst, arith, Contents, Settings, Kernel, ImageView, Absent, AtFile, Bad, Found, Good, Long, Outcome, long_file, long_program, IsOwn, outcome_of, status_of, IsDue, IsEnded, Owes, Refusal, Missing, ReadFault, Budget, OutOfMemory, FindsAccepted, FindsFlows, BuildComesTo, BuildsTo, HasBuilt, HasLongImage, ExecComesTo, ExecutesTo, HasExecuted, inputs_of_image, FindsImage}
 
 two_numbers : (status m n : ℕ) → status ≡ m → status ≡ n → m ≡ n
 two_numbers status m n a b = sym a ∙ b
@@ -52,14 +52,9 @@ module _ (held : Contents) (program : List ℕ) (o : Outcome) (ten : o.status �
 own_ten : (r : Refusal) (faults faults' : ℕ) → status_of r ≡ 10 → IsOwn r faults faults'
 own_ten (Missing n) faults faults' ten = absurd (omega (arith, ten))
 own_ten (ReadFault n) faults faults' ten = absurd (omega (arith, ten))
-own_ten LongProgram faults faults' ten = tt
-own_ten (Program line) faults faults' ten = tt
 own_ten (Budget nodes) faults faults' ten = absurd (omega (arith, ten))
-own_ten TooManyItems faults faults' ten = tt
-own_ten (LongFile n) faults faults' ten = tt
-own_ten (Data line) faults faults' ten = tt
-own_ten LongImage faults faults' ten = tt
 own_ten OutOfMemory faults faults' ten = absurd (omega (arith, ten))
+own_ten other faults faults' ten = tt
 
 pub has_long_image : (contents : Option Contents) (program : List ℕ) (r : Refusal) → status_of r ≡ 10 → (faults faults' : ℕ) (before at : Option (List ℕ))
     → (IsOwn r faults faults' → IfSome contents (λ held. Owes (BuildComesTo held program) held before at r)) → IfSome contents (λ held. HasLongImage held program)

@@ -1,5 +1,5 @@
 -- The end of the run of a kernel's image is said as that of the kernel's run.
-use Rattle.sig_image_command.proofs.Common.{◌≡◌, ◌∙◌, ◌∷◌, ℕ, zero, suc, List, [], length, map, slice_get, refl, sym, ap, codes, flat_map, slice_index_or, decimal, Trace, EqId, SigId, Signal, Span, output_text, Equation, Kernel, Cause, Ended, ImageView, names_of, image_signal, col_at, end_line, end_pieces, end_status, line_at, name_at, pieces_at, ended, cause_in, end_in, span_at, span_of, IsKernelImage, exec_line, exec_pieces, exec_status, name_in, executed}
+use Rattle.sig_image_command.proofs.Common.{◌≡◌, ◌∙◌, ◌∷◌, ℕ, zero, suc, List, [], map, slice_get, refl, ap, codes, flat_map, slice_index_or, decimal, Trace, EqId, SigId, Signal, output_text, Equation, Kernel, Cause, Ended, ImageView, names_of, image_signal, col_at, end_line, end_pieces, end_status, line_at, name_at, pieces_at, ended, cause_in, end_in, span_at, span_of, IsKernelImage, exec_line, exec_pieces, exec_status, name_in, executed}
 use Rattle.sig_plan.specs.declared.ended.Cause.TheVariants.{Exhausted, Overflow, ZeroDivisor, Limit}
 
 -- ---- places and names
@@ -41,9 +41,7 @@ same_line kernel image of end = ap (flat_map (λ piece. piece)) (pieces_same ker
 
 pub same_status : (kernel : Kernel) (cause : Cause) → exec_status (cause_in kernel cause) ≡ end_status cause
 same_status kernel (Exhausted x) = refl
-same_status kernel (Overflow e) = refl
-same_status kernel (ZeroDivisor e) = refl
-same_status kernel Limit = refl
+same_status kernel other = refl
 
 pub same_outcome : (kernel : Kernel) (image : ImageView) → IsKernelImage kernel image → (trace : Trace) (end : Ended) (file : List ℕ)
     → executed image (output_text kernel trace) (end_in kernel end) file ≡ ended kernel trace end file

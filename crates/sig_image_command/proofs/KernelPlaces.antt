@@ -1,5 +1,5 @@
 -- The operations of the image of an accepted program have places whose lines and columns have 32 bits.
-use Rattle.sig_image_command.proofs.Common.{◌≤◌, ◌+◌, ◌<◌, ◌^◌, ◌∷◌, ℕ, zero, suc, false, List, [], Option, None, Some, length, slice_get, sym, subst, arith, AllByRecursion, IfSome, All-from_recursion, EqId, SigId, PROGRAM_BYTES, Signal, Span, Equation, Kernel, PlanView, Op, OpKind, Read, Compute, Left, Right, DelayRead, Store, IsKernelText, AtPlacesOfKernel, IsWithin, ImageView, before, does_of, equation_at, equation_numbered, image_of, image_op, made_of, memory_number, op_with, ordered, read_at, visited, HasPlace, HavePlaces, ImageNode, ImageOp, ImageOpKind, IsAcceptedAs, diagram, IsKernelImage, all_so}
+use Rattle.sig_image_command.proofs.Common.{◌≤◌, ◌+◌, ◌<◌, ◌^◌, ◌∷◌, ℕ, zero, suc, false, List, [], Option, None, Some, length, slice_get, sym, subst, arith, AllByRecursion, IfSome, All-from_recursion, EqId, SigId, PROGRAM_BYTES, Signal, Span, Equation, Kernel, PlanView, Op, OpKind, Read, IsKernelText, AtPlacesOfKernel, IsWithin, ImageView, before, does_of, equation_at, equation_numbered, image_of, image_op, made_of, memory_number, op_with, ordered, read_at, visited, HasPlace, HavePlaces, ImageNode, ImageOp, ImageOpKind, IsAcceptedAs, diagram, IsKernelImage, all_so}
 use Rattle.sig_file.specs.declared.images.ImageOpKind.TheVariants as does
 
 -- a place whose line and column have 32 bits
@@ -34,11 +34,7 @@ module _ (kernel : Kernel) (places : AtPlacesOfKernel IsPlace kernel) where
 
   image_op_placed : (guard : ℕ) (kind : OpKind) (e : Option EqId) → IfSome (image_op kernel guard kind e) HasPlace
   image_op_placed guard (Read x) e = read_placed guard x (slice_get kernel.signals x.0) (found (λ (s : Signal). IsPlace s.at) kernel.signals x.0 places.signals)
-  image_op_placed guard Compute e = numbered_placed guard Compute e
-  image_op_placed guard Left e = numbered_placed guard Left e
-  image_op_placed guard Right e = numbered_placed guard Right e
-  image_op_placed guard DelayRead e = numbered_placed guard DelayRead e
-  image_op_placed guard (Store number) e = numbered_placed guard (Store number) e
+  image_op_placed guard other e = numbered_placed guard other e
 
 -- all operations of an image
 before_placed : (op : Option ImageOp) (ops : List ImageOp) → IfSome op HasPlace → AllByRecursion HasPlace ops → AllByRecursion HasPlace (before op ops)

@@ -1,37 +1,19 @@
 -- Which statuses say that nodes do not suffice, and which that all was written.
-use Rattle.sig_image_command.proofs.Common.{◌≡◌, ◌⊎◌, ℕ, ℤ, List, Option, None, Some, Bool, IfSome, inl, inr, sym, ap, subst, ◌∙◌, Contents, ImageView, ImageCause, Exhausted, Limit, Overflow, ZeroDivisor, status_of, Refusal, Missing, ReadFault, LongProgram, Program, Budget, TooManyItems, LongFile, Data, LongImage, OutOfMemory, IsAboutFlows, LacksMemory, exec_status, WritesExec}
+use Rattle.sig_image_command.proofs.Common.{◌≡◌, ◌⊎◌, ℕ, ℤ, List, Option, None, Some, Bool, IfSome, inl, inr, sym, ◌∙◌, Contents, ImageView, ImageCause, Exhausted, status_of, Refusal, Missing, Budget, IsAboutFlows, LacksMemory, exec_status, WritesExec}
 
 -- no refusal has status 0
 pub no_refusal : (r : Refusal) → status_of r ≡ 0 → ⊥
 no_refusal (Missing name) e = absurd cc
-no_refusal (ReadFault name) e = absurd cc
-no_refusal LongProgram e = absurd cc
-no_refusal (Program line) e = absurd cc
-no_refusal (Budget nodes) e = absurd cc
-no_refusal TooManyItems e = absurd cc
-no_refusal (LongFile name) e = absurd cc
-no_refusal (Data line) e = absurd cc
-no_refusal LongImage e = absurd cc
-no_refusal OutOfMemory e = absurd cc
+no_refusal other e = absurd cc
 
 -- no refusal of a flow file has status 8
 pub no_flow_budget : (name : List ℕ) (r : Refusal) → IsAboutFlows name r → status_of r ≡ 8 → ⊥
-no_flow_budget name (Missing n) about e = absurd cc
-no_flow_budget name (ReadFault n) about e = absurd cc
-no_flow_budget name LongProgram about e = absurd cc
-no_flow_budget name (Program line) about e = absurd cc
 no_flow_budget name (Budget nodes) about e = absurd about
-no_flow_budget name TooManyItems about e = absurd cc
-no_flow_budget name (LongFile n) about e = absurd cc
-no_flow_budget name (Data line) about e = absurd cc
-no_flow_budget name LongImage about e = absurd cc
-no_flow_budget name OutOfMemory about e = absurd cc
+no_flow_budget name other about e = absurd cc
 
 no_end_budget : (cause : ImageCause) → exec_status cause ≡ 8 → ⊥
 no_end_budget (Exhausted x) e = absurd cc
-no_end_budget (Overflow at) e = absurd cc
-no_end_budget (ZeroDivisor at) e = absurd cc
-no_end_budget Limit e = absurd cc
+no_end_budget other e = absurd cc
 
 by_number : (cause : ImageCause) (status : ℕ) → (status ≡ exec_status cause) ⊎ (status ≡ 6) → status ≡ 8 → ⊥
 by_number cause status (inl ends) e = no_end_budget cause (sym ends ∙ e)

@@ -1,5 +1,6 @@
 -- What the files of a build, and of a run of an image, call for.
-use Rattle.sig_image_command.proofs.Common.{◌≡◌, ◌≤◌, ℕ, ℤ, false, List, Option, Some, IfSome, inl, inr, refl, ap, subst, arith, ⊤, Contents, name_where_there, Settings, IsAccepted, PlanView, image_bytes, ImageView, IsImageRun, image_of, ImageEnd, Good, done, HasCount, IsOfLength, IsOwn, outcome_of, status_of, Reaches, Stops, Refusal, Missing, ReadFault, LongProgram, Program, Budget, TooManyItems, LongFile, Data, LongImage, OutOfMemory, count_of_length, later_count, later_own, no_budget_of_length, told, told_both, AtPlan, FindsAccepted, HoldsBeyondBound, IsAboutPlan, AtFlows, FindsFlows, IsAboutFlows, AreFewBytes, AreManyBytes, BuildComesTo, IsKernelImage, building, ExecComesTo, ExecutesTo, executed, executing, inputs_of_image, AtImage, FindsImage, HoldsBeyondVerifying, IsAboutFile}
+use Rattle.sig_image_command.proofs.Common.{◌≡◌, ◌≤◌, ℕ, ℤ, false, List, Option, Some, IfSome, inl, inr, refl, ap, subst, arith, ⊤, Contents, name_where_there, Settings, IsAccepted, PlanView, image_bytes, ImageView, IsImageRun, image_of, ImageEnd, Good, done, HasCount, IsOfLength, IsOwn, outcome_of, status_of, Reaches, Stops, Refusal, LongImage, OutOfMemory, count_of_length, later_count, later_own, no_budget_of_length, told, told_both, AtPlan, FindsAccepted, HoldsBeyondBound, IsAboutPlan, AtFlows, FindsFlows, IsAboutFlows, AreFewBytes, AreManyBytes, BuildComesTo, IsKernelImage, building, ExecComesTo, ExecutesTo, executed, executing, inputs_of_image, AtImage, FindsImage, HoldsBeyondVerifying, IsAboutFile}
+use Rattle.sig_image_command.proofs.LastBegun.{no_flow_budget}
 use Rattle.sig_image_command.proofs.OneBuild.{plan_refuses}
 use Rattle.sig_image_command.proofs.OneExec.{executes, image_refuses, inputs_refuse}
 
@@ -28,28 +29,14 @@ module _ (contents : Option Contents) (before at : Option (List ℕ)) (misses mi
     -- its image is too long, or memory was wanting
     long_refuses : (held : Contents) → FindsAccepted false (held program) (Good plan.kernel) → (r : Refusal) → IsOfLength (AreManyBytes (image_bytes (image_of plan))) r → IsOwn r faults faults'
         → BuildComesTo held program (outcome_of r (Some program))
-    long_refuses held finds (Missing n) is own = absurd is
-    long_refuses held finds (ReadFault n) is own = absurd is
-    long_refuses held finds LongProgram is own = absurd is
-    long_refuses held finds (Program line) is own = absurd is
-    long_refuses held finds (Budget nodes) is own = absurd is
-    long_refuses held finds TooManyItems is own = absurd is
-    long_refuses held finds (LongFile n) is own = absurd is
-    long_refuses held finds (Data line) is own = absurd is
     long_refuses held finds LongImage is own = (Good plan.kernel, finds, inr (record { image = image_of plan; of = of_plan; fact = (is, refl) }))
     long_refuses held finds OutOfMemory is own = absurd own
+    long_refuses held finds other is own = absurd is
 
     about_long : (r : Refusal) → IsOfLength (AreManyBytes (image_bytes (image_of plan))) r → IsOfLength ⊤ r
-    about_long (Missing n) is = is
-    about_long (ReadFault n) is = is
-    about_long LongProgram is = is
-    about_long (Program line) is = is
-    about_long (Budget nodes) is = is
-    about_long TooManyItems is = is
-    about_long (LongFile n) is = is
-    about_long (Data line) is = is
     about_long LongImage is = tt
     about_long OutOfMemory is = tt
+    about_long other is = is
 
     pub stops_length : (r : Refusal) → IsOfLength (AreManyBytes (image_bytes (image_of plan))) r → Stops (building program) contents before at misses misses' faults faults' r
     stops_length r is = record {
@@ -74,19 +61,6 @@ module _ (contents : Option Contents) (before at : Option (List ℕ)) (misses mi
     }
 
 -- ---- the run of an image
-
--- a refusal of the flow file is none for nodes that do not suffice
-no_budget : (flows : List ℕ) (r : Refusal) → IsAboutFlows flows r → status_of r ≡ 8 → ⊥
-no_budget flows (Missing n) about eight = omega (arith, eight)
-no_budget flows (ReadFault n) about eight = omega (arith, eight)
-no_budget flows LongProgram about eight = omega (arith, eight)
-no_budget flows (Program line) about eight = omega (arith, eight)
-no_budget flows (Budget nodes) about eight = about
-no_budget flows TooManyItems about eight = omega (arith, eight)
-no_budget flows (LongFile n) about eight = omega (arith, eight)
-no_budget flows (Data line) about eight = omega (arith, eight)
-no_budget flows LongImage about eight = omega (arith, eight)
-no_budget flows OutOfMemory about eight = omega (arith, eight)
 
 module _ (contents : Option Contents) (before at : Option (List ℕ)) (m0 m1 m2 f0 f1 f2 : ℕ) (file flows : List ℕ) (settings : Settings) where
   pub stops_image : (r : Refusal) → IsAboutFile file r → HasCount contents at m0 m1 f0 f1 r
@@ -117,7 +91,7 @@ module _ (contents : Option Contents) (before at : Option (List ℕ)) (m0 m1 m2 
           about = inr about;
           counted = later_count contents at m0 m1 m2 f0 f1 f2 le_m le_f r counts;
           owed = told_both contents _ _ _ (λ held comes_to is. λ own. record { file = Some flows; comes = comes_to own; last = is }) comes begun;
-          budget = told contents _ (λ held. λ eight. absurd (no_budget flows r about eight));
+          budget = told contents _ (λ held. λ eight. absurd (no_flow_budget flows r about eight));
           begun = told_both contents _ _ _ (λ held is same. inr is) begun begun;
         }
 

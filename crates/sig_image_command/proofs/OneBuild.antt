@@ -1,5 +1,5 @@
 -- The building of a program's image over told contents comes to one outcome at most.
-use Rattle.sig_image_command.proofs.Common.{◌≡◌, ◌∙◌, ◌<◌, ◌≤◌, ℕ, false, List, length, inl, inr, refl, sym, ap, arith, ⊤, Contents, Kernel, image_bytes, ImageView, IMAGE_BYTES, OneAtMost, Outcome, done, long_program, IsOfLength, status_of, Refusal, Missing, ReadFault, LongProgram, Program, Budget, TooManyItems, LongFile, Data, LongImage, OutOfMemory, at_file_ends, one_at_program, AreRefused, IsAcceptedAs, AtPlan, compile_number, accepted_once, accepted_or_refused, refused_once, AreFewBytes, AreManyBytes, BuildComesTo, BuildsTo, HasImage, IsAboutBuild, IsBuildStatus}
+use Rattle.sig_image_command.proofs.Common.{◌≡◌, ◌∙◌, ◌<◌, ◌≤◌, ℕ, false, List, length, inl, inr, refl, sym, ap, arith, ⊤, Contents, Kernel, image_bytes, ImageView, IMAGE_BYTES, OneAtMost, Outcome, done, long_program, IsOfLength, status_of, Refusal, LongImage, OutOfMemory, at_file_ends, one_at_program, AreRefused, IsAcceptedAs, AtPlan, compile_number, accepted_once, accepted_or_refused, refused_once, AreFewBytes, AreManyBytes, BuildComesTo, BuildsTo, HasImage, IsAboutBuild, IsBuildStatus}
 use Rattle.sig_image_command.proofs.ImageOnce.{image_once}
 
 -- the bytes of a kernel's image are not both few and many
@@ -30,16 +30,9 @@ plan_refuses program held o x = (x.0, x.1, at_file_ends 1 long_program program x
 -- ---- statuses
 
 length_number : (r : Refusal) → IsOfLength ⊤ r → IsBuildStatus (status_of r)
-length_number (Missing n) about = absurd about
-length_number (ReadFault n) about = absurd about
-length_number LongProgram about = absurd about
-length_number (Program line) about = absurd about
-length_number (Budget nodes) about = absurd about
-length_number TooManyItems about = absurd about
-length_number (LongFile n) about = absurd about
-length_number (Data line) about = absurd about
 length_number LongImage about = inr refl
 length_number OutOfMemory about = inl (inr (inr (inr (inr (inl refl)))))
+length_number other about = absurd about
 
 pub build_number : (program : List ℕ) (r : Refusal) → IsAboutBuild program r → IsBuildStatus (status_of r)
 build_number program r (inl about) = inl (compile_number program r about)

@@ -1,5 +1,5 @@
 -- The run of an image over told contents comes to one outcome at most.
-use Rattle.sig_image_command.proofs.Common.{◌∙◌, ℕ, ℤ, List, inl, inr, ⊎_elim, refl, sym, ap, Contents, Settings, AreFlows, ImageView, ImageEnd, Good, OneAtMost, Outcome, long_file, status_of, Refusal, Missing, ReadFault, LongProgram, Program, Budget, TooManyItems, LongFile, Data, LongImage, OutOfMemory, at_file_ends, one_at_data, AtFlows, FindsFlows, RefusesFlows, flows_apart, no_flows_line, one_flows, ExecComesTo, ExecutesTo, IsAboutExec, IsExecStatus, executed, inputs_of_image, AtImage, FindsImage, IsSoundFile, RefusesImage}
+use Rattle.sig_image_command.proofs.Common.{◌∙◌, ℕ, ℤ, List, inl, inr, ⊎_elim, refl, sym, ap, Contents, Settings, AreFlows, ImageView, ImageEnd, Good, OneAtMost, Outcome, long_file, status_of, Refusal, Missing, ReadFault, Budget, LongFile, Data, OutOfMemory, at_file_ends, one_at_data, AtFlows, FindsFlows, RefusesFlows, flows_apart, no_flows_line, one_flows, ExecComesTo, ExecutesTo, IsAboutExec, IsExecStatus, executed, inputs_of_image, AtImage, FindsImage, IsSoundFile, RefusesImage}
 use Rattle.sig_image_command.proofs.ImageRuns.{one_image_run}
 use Rattle.sig_image_command.proofs.FileOnce.{image_apart, one_image_line, one_sound}
 
@@ -42,11 +42,8 @@ module _ (file flows : List ℕ) (settings : Settings) where
 pub exec_number : (file flows : List ℕ) (r : Refusal) → IsAboutExec file flows r → IsExecStatus (status_of r)
 exec_number file flows (Missing n) about = inr (inr (inr (inl refl)))
 exec_number file flows (ReadFault n) about = inr (inr (inr (inl refl)))
-exec_number file flows LongProgram about = absurd (⊎_elim (λ x. x) (λ x. x) about)
-exec_number file flows (Program line) about = absurd (⊎_elim (λ x. x) (λ x. x) about)
 exec_number file flows (Budget nodes) about = inr (inr (inr (inr (inr refl))))
-exec_number file flows TooManyItems about = absurd (⊎_elim (λ x. x) (λ x. x) about)
 exec_number file flows (LongFile n) about = inr (inr (inl refl))
 exec_number file flows (Data line) about = inr (inr (inl refl))
-exec_number file flows LongImage about = absurd (⊎_elim (λ x. x) (λ x. x) about)
 exec_number file flows OutOfMemory about = inr (inr (inr (inr (inl refl))))
+exec_number file flows other about = absurd (⊎_elim (λ x. x) (λ x. x) about)

@@ -7,9 +7,7 @@ use Rattle.sig_image_command.proofs.OneExec.{exec_number, one_exec_outcome}
 
 no_six : (cause : ImageCause) → exec_status cause ≡ 6 → ⊥
 no_six (Exhausted x) six = omega (arith, six)
-no_six (Overflow at) six = omega (arith, six)
-no_six (ZeroDivisor at) six = omega (arith, six)
-no_six Limit six = omega (arith, six)
+no_six other six = omega (arith, six)
 
 pub is_ended : (cause : ImageCause) → IsEnded (exec_status cause)
 is_ended (Exhausted x) = inl refl

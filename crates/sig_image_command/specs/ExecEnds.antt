@@ -11,9 +11,7 @@ use Rattle.sig_loaded.specs.Ends.{pieces_at}
 -- a cause names a signal of the image
 abbrev pub IsOfImage : ImageView → ImageCause → Type 0
 IsOfImage image (Exhausted x) = x.0 < length image.signals
-IsOfImage image (Overflow at) = ⊤
-IsOfImage image (ZeroDivisor at) = ⊤
-IsOfImage image Limit = ⊤
+IsOfImage image other = ⊤
 
 -- the status of a run with this cause: 3 where a result is outside 64 bits, or a divisor is 0
 abbrev pub exec_status : ImageCause → ℕ

@@ -1,17 +1,13 @@
 -- An actor for which no event changes anything rests as long as its own state, its link and the word stay.
-use Rattle.sig_interleaving.proofs.Common.{◌≡◌, ◌<◌, ◌++◌, ◌∙◌, ℕ, ℤ, Bool, true, false, cond, List, [], ◌∷◌, length, set, refl, sym, ap, arith, None, Option, Some, nat_lt, slice_get, Place, left_at, link_at, link_of, Actor, code_of, ended_at, guard_holds, moved_on, next_place, ModelCore, Given, acted, items_on, looked, stepped, take_first, turned, with_actor, with_items, word_before, Faults, Gives, Outcome, outcome, AtLimit, Commits, Fails, Goes, Puts, Stopped, Takes, Turn, turn, turn_at, turn_by, turn_of_op, turn_with, Act, Look, IsAccepted, PlanView, Step, StepKind, Do, Send, Receive, Report, Collect, Commit, Op, same_Some, set_here}
+use Rattle.sig_interleaving.proofs.Common.{◌≡◌, ◌<◌, ◌++◌, ◌∙◌, ℕ, ℤ, Bool, true, false, cond, List, [], ◌∷◌, length, set, refl, sym, ap, arith, None, Option, Some, nat_lt, slice_get, Place, left_at, link_at, link_of, Actor, code_of, ended_at, guard_holds, moved_on, next_place, ModelCore, Given, acted, items_on, looked, stepped, take_first, turned, with_actor, with_items, word_before, Faults, Gives, Outcome, outcome, AtLimit, Commits, Fails, Goes, Puts, Stopped, Takes, Turn, turn, turn_at, turn_by, turn_of_op, turn_with, Act, Look, IsAccepted, PlanView, Step, StepKind, Do, Commit, Op, same_Some, set_here}
 use Rattle.sig_interleaving.proofs.WhatIsLeft.{Falls, end_falls}
 use Rattle.sig_interleaving.proofs.ActorTurns.{IsTurnOf, turn_is}
 
 -- the turn asks no link but the one that is named
 abbrev pub UsesLink : Option ℕ → Turn → Type 0
-UsesLink named Stopped = Unit {0}
-UsesLink named AtLimit = Unit {0}
-UsesLink named (Fails place) = Unit {0}
-UsesLink named (Goes next) = Unit {0}
-UsesLink named (Commits reaction next) = Unit {0}
 UsesLink named (Puts j item next) = named ≡ Some j
 UsesLink named (Takes j next) = named ≡ Some j
+UsesLink named other = Unit {0}
 
 module _ (given : Given) (k : ℕ) (a : Actor) where
   abbrev plan : PlanView
@@ -29,11 +25,8 @@ module _ (given : Given) (k : ℕ) (a : Actor) where
 
   kind_uses : (kind : StepKind) → UsesLink (link_of kind) (turn_by plan given.flows (code_of plan k) a kind)
   kind_uses (Do o) = some_op None (slice_get plan.ops o.0)
-  kind_uses (Send j) = refl
-  kind_uses (Report j) = refl
-  kind_uses (Receive j) = refl
-  kind_uses (Collect j) = refl
   kind_uses Commit = tt
+  kind_uses other = refl
 
   step_uses : (step : Option Step) → UsesLink (link_at step) (turn_at plan given.flows (code_of plan k) a step)
   step_uses None = tt

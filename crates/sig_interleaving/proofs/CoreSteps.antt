@@ -7,33 +7,18 @@ use Rattle.sig_step.specs.declared.answer.Acted.TheVariants.{Commit}
 
 -- the word behind a step that answers this
 abbrev pub word_by : Acted → Option Place → Option Place
-word_by Done word = word
-word_by Commit word = word
-word_by (Empty j) word = word
-word_by (Full j) word = word
 word_by (Failed place) word = Some (lesser word place)
-word_by AtTheLimit word = word
-word_by HasStopped word = word
+word_by other word = word
 
 -- a place that a step of the actor leaves
 abbrev pub PlaceOf : Given → ℕ → Actor → Acted → Type 0
-PlaceOf given k a Done = Unit {0}
-PlaceOf given k a Commit = Unit {0}
-PlaceOf given k a (Empty j) = Unit {0}
-PlaceOf given k a (Full j) = Unit {0}
 PlaceOf given k a (Failed place) = IsFailure given k a place
-PlaceOf given k a AtTheLimit = Unit {0}
-PlaceOf given k a HasStopped = Unit {0}
+PlaceOf given k a other = Unit {0}
 
 -- what a step commits that leaves this state
 abbrev CommitOf : Kernel → ClusterState → Acted → ModelCore → ModelCore → Type 0
-CommitOf kernel s Done m n = n.committed ≡ m.committed
 CommitOf kernel s Commit m n = n.committed ≡ m.committed ++ last_reaction kernel s ∷ []
-CommitOf kernel s (Empty j) m n = n.committed ≡ m.committed
-CommitOf kernel s (Full j) m n = n.committed ≡ m.committed
-CommitOf kernel s (Failed place) m n = n.committed ≡ m.committed
-CommitOf kernel s AtTheLimit m n = n.committed ≡ m.committed
-CommitOf kernel s HasStopped m n = n.committed ≡ m.committed
+CommitOf kernel s other m n = n.committed ≡ m.committed
 
 module _ (old mid : Core) (is : IsCore old) (accepted : IsAccepted old.plan.now) (k : ℕ) (acted : Acted) (took : TakesTurnAt k acted old mid) where
   abbrev given : Given
@@ -137,47 +122,40 @@ module _ (old mid : Core) (is : IsCore old) (accepted : IsAccepted old.plan.now)
     link_there : (j : ℕ) → j < length plan.links → j < length m.links
     link_there j lt = let one = shows.count in let two = is.links in omega (arith, lt, one, two)
 
-    outcome : (t : Turn) → IsTurnOf given accepted k a inside t → (asked : Asked) → Acts kernel t acted took.before took.next asked → QueuesGoOn asked q r → Outcome (turned given k a t m) acted
-    outcome Stopped of asked acts go = subst (Outcome m) (sym acts.answers) (record {
-      actors = same_actors acts.is;
+    -- a step that leaves the core as it is
+    stayed : (answer : Acted) → b ≡ a → ((j : ℕ) → slice_index_or m.links j [] ≡ (r j).items) → word_by answer m.word ≡ m.word → CommitOf kernel took.next answer m m → Outcome m answer
+    stayed answer same links word commits = record {
+      actors = same_actors same;
       count = refl;
-      links = links_stay q r m.links shows.links (subst (λ z. QueuesGoOn z q r) acts.asks go);
-      word = refl;
-      commits = refl;
+      links = links;
+      word = sym word;
+      commits = commits;
       stays = λ none. refl;
-    })
-    outcome AtLimit of asked acts go = subst (Outcome (turned given k a AtLimit m)) (sym acts.answers) (record {
-      actors = ap (set m.actors k) (sym acts.is);
-      count = refl;
-      links = links_stay q r m.links shows.links (subst (λ z. QueuesGoOn z q r) acts.asks go);
-      word = refl;
-      commits = refl;
-      stays = λ none. absurd (let e : true ≡ false = none in cc);
-    })
-    outcome (Fails place) of asked acts go = subst (Outcome (turned given k a (Fails place) m)) (sym acts.answers) (record {
-      actors = ap (set m.actors k) (sym acts.is);
-      count = refl;
-      links = links_stay q r m.links shows.links (subst (λ z. QueuesGoOn z q r) acts.asks go);
-      word = refl;
-      commits = refl;
-      stays = λ none. absurd (let e : true ≡ false = none in cc);
-    })
-    outcome (Goes next) of asked acts go = subst (Outcome (turned given k a (Goes next) m)) (sym acts.answers) (record {
-      actors = ap (set m.actors k) (sym acts.is);
-      count = refl;
-      links = links_stay q r m.links shows.links (subst (λ z. QueuesGoOn z q r) acts.asks go);
-      word = refl;
-      commits = refl;
-      stays = λ none. absurd (let e : true ≡ false = none in cc);
-    })
-    outcome (Commits reaction next) of asked acts go = subst (Outcome (turned given k a (Commits reaction next) m)) (sym acts.0.answers) (record {
-      actors = ap (set m.actors k) (sym acts.0.is);
-      count = refl;
-      links = links_stay q r m.links shows.links (subst (λ z. QueuesGoOn z q r) acts.0.asks go);
-      word = refl;
-      commits = ap (λ (x : Reaction). m.committed ++ x ∷ []) (sym acts.1);
-      stays = λ none. absurd (let e : true ≡ false = none in cc);
-    })
+    }
+
+    -- and one that changes the actor
+    moved : (n : ModelCore) (answer : Acted) → n.actors ≡ set m.actors k b → length n.links ≡ length m.links → ((j : ℕ) → slice_index_or n.links j [] ≡ (r j).items) → n.word ≡ word_by answer m.word
+        → CommitOf kernel took.next answer m n → changes answer ≡ true → Outcome n answer
+    moved n answer actors count links word commits does = record {
+      actors = actors;
+      count = count;
+      links = links;
+      word = word;
+      commits = commits;
+      stays = λ none. absurd (let e : true ≡ false = sym does ∙ none in cc);
+    }
+
+    outcome : (t : Turn) → IsTurnOf given accepted k a inside t → (asked : Asked) → Acts kernel t acted took.before took.next asked → QueuesGoOn asked q r → Outcome (turned given k a t m) acted
+    outcome Stopped of asked acts go = subst (Outcome m) (sym acts.answers)
+        (stayed HasStopped acts.is (links_stay q r m.links shows.links (subst (λ z. QueuesGoOn z q r) acts.asks go)) refl refl)
+    outcome AtLimit of asked acts go = subst (Outcome (turned given k a AtLimit m)) (sym acts.answers)
+        (moved (turned given k a AtLimit m) AtTheLimit (ap (set m.actors k) (sym acts.is)) refl (links_stay q r m.links shows.links (subst (λ z. QueuesGoOn z q r) acts.asks go)) refl refl refl)
+    outcome (Fails place) of asked acts go = subst (Outcome (turned given k a (Fails place) m)) (sym acts.answers)
+        (moved (turned given k a (Fails place) m) (Failed place) (ap (set m.actors k) (sym acts.is)) refl (links_stay q r m.links shows.links (subst (λ z. QueuesGoOn z q r) acts.asks go)) refl refl refl)
+    outcome (Goes next) of asked acts go = subst (Outcome (turned given k a (Goes next) m)) (sym acts.answers)
+        (moved (turned given k a (Goes next) m) Done (ap (set m.actors k) (sym acts.is)) refl (links_stay q r m.links shows.links (subst (λ z. QueuesGoOn z q r) acts.asks go)) refl refl refl)
+    outcome (Commits reaction next) of asked acts go = subst (Outcome (turned given k a (Commits reaction next) m)) (sym acts.0.answers)
+        (moved (turned given k a (Commits reaction next) m) Commit (ap (set m.actors k) (sym acts.0.is)) refl (links_stay q r m.links shows.links (subst (λ z. QueuesGoOn z q r) acts.0.asks go)) refl (ap (λ (x : Reaction). m.committed ++ x ∷ []) (sym acts.1)) refl)
     outcome (Puts j item next) of asked (inl done) go = by (nat_lt (length (items_on m j)) given.capacity) refl where
       put : QueuesGoOn (Pushed j item) q r
       put = subst (λ z. QueuesGoOn z q r) done.asks go
@@ -192,15 +170,9 @@ module _ (old mid : Core) (is : IsCore old) (accepted : IsAccepted old.plan.now)
       by : (test : Bool) → nat_lt (length (items_on m j)) given.capacity ≡ test
           → Outcome (cond test (with_items j (items_on m j ++ item ∷ []) (with_actor k next m)) m) acted
       by false fails = absurd (let e : true ≡ false = sym (lt-ltb (length (items_on m j)) given.capacity room) ∙ fails in cc)
-      by true holds = subst (Outcome (with_items j (items_on m j ++ item ∷ []) (with_actor k next m))) (sym done.answers) (record {
-        actors = ap (set m.actors k) (sym done.is);
-        count = length-set m.links j (items_on m j ++ item ∷ []);
-        links = links_put q r m.links shows.links j (link_there j of.1) (items_on m j ++ item ∷ [])
-            (ap (λ (l : LinkQueue). l.items) put.1 ∙ ap (λ xs. xs ++ item ∷ []) (sym (shows.links j))) put.2;
-        word = refl;
-        commits = refl;
-        stays = λ none. absurd (let e : true ≡ false = none in cc);
-      })
+      by true holds = subst (Outcome (with_items j (items_on m j ++ item ∷ []) (with_actor k next m))) (sym done.answers)
+          (moved (with_items j (items_on m j ++ item ∷ []) (with_actor k next m)) Done (ap (set m.actors k) (sym done.is)) (length-set m.links j (items_on m j ++ item ∷ []))
+          (links_put q r m.links shows.links j (link_there j of.1) (items_on m j ++ item ∷ []) (ap (λ (l : LinkQueue). l.items) put.1 ∙ ap (λ xs. xs ++ item ∷ []) (sym (shows.links j))) put.2) refl refl refl)
     outcome (Puts j item next) of asked (inr full) go = by (nat_lt (length (items_on m j)) given.capacity) refl where
       found : QueuesGoOn (FoundFull j) q r
       found = subst (λ z. QueuesGoOn z q r) full.asks go
@@ -213,37 +185,19 @@ module _ (old mid : Core) (is : IsCore old) (accepted : IsAccepted old.plan.now)
           let held = ap length (shows.links j) in
           let capacity = is.room j of.1 in
           absurd (omega (arith, less, none, held, capacity))
-      by false fails = subst (Outcome m) (sym full.answers) (record {
-        actors = same_actors full.is;
-        count = refl;
-        links = links_stay q r m.links shows.links found.1;
-        word = refl;
-        commits = refl;
-        stays = λ none. refl;
-      })
+      by false fails = subst (Outcome m) (sym full.answers) (stayed (Full j) full.is (links_stay q r m.links shows.links found.1) refl refl)
     outcome (Takes j next) of asked (inl (item, done)) go =
-        subst (λ xs. Outcome (take_first k j next m xs) acted) (sym held) (subst (Outcome (with_items j (r j).items (with_actor k (next item) m))) (sym done.answers) (record {
-          actors = ap (set m.actors k) (sym done.is);
-          count = length-set m.links j (r j).items;
-          links = links_put q r m.links shows.links j (link_there j of.1) (r j).items refl taken.1;
-          word = refl;
-          commits = refl;
-          stays = λ none. absurd (let e : true ≡ false = none in cc);
-        })) where
+        subst (λ xs. Outcome (take_first k j next m xs) acted) (sym held) (subst (Outcome (with_items j (r j).items (with_actor k (next item) m))) (sym done.answers)
+        (moved (with_items j (r j).items (with_actor k (next item) m)) Done (ap (set m.actors k) (sym done.is)) (length-set m.links j (r j).items)
+        (links_put q r m.links shows.links j (link_there j of.1) (r j).items refl taken.1) refl refl refl)) where
           taken : QueuesGoOn (Popped j item) q r
           taken = subst (λ z. QueuesGoOn z q r) done.asks go
 
           held : items_on m j ≡ item ∷ (r j).items
           held = shows.links j ∙ ap (λ (l : LinkQueue). l.items) taken.0
     outcome (Takes j next) of asked (inr empty) go =
-        subst (λ xs. Outcome (take_first k j next m xs) acted) (sym (shows.links j ∙ found.0)) (subst (Outcome m) (sym empty.answers) (record {
-          actors = same_actors empty.is;
-          count = refl;
-          links = links_stay q r m.links shows.links found.1;
-          word = refl;
-          commits = refl;
-          stays = λ none. refl;
-        })) where
+        subst (λ xs. Outcome (take_first k j next m xs) acted) (sym (shows.links j ∙ found.0)) (subst (Outcome m) (sym empty.answers)
+        (stayed (Empty j) empty.is (links_stay q r m.links shows.links found.1) refl refl)) where
           found : QueuesGoOn (FoundEmpty j) q r
           found = subst (λ z. QueuesGoOn z q r) empty.asks go
 
@@ -305,15 +259,10 @@ module _ (old mid : Core) (is : IsCore old) (accepted : IsAccepted old.plan.now)
     }
 
     commits_as : (answer : Acted) (m n : ModelCore) → CommitOf kernel took.next answer m n → CommitsAs k behind answer m n
-    commits_as Done m n commits = commits
     commits_as Commit m n commits = λ s at.
         let here : slice_get mid.states.items k ≡ Some took.next = ap (λ xs. slice_get xs k) took.is ∙ set_here old.states.items k took.next took.before took.at in
         commits ∙ ap (λ (z : ClusterState). m.committed ++ last_reaction kernel z ∷ []) (same_Some took.next s (sym here ∙ at))
-    commits_as (Empty j) m n commits = commits
-    commits_as (Full j) m n commits = commits
-    commits_as (Failed place) m n commits = commits
-    commits_as AtTheLimit m n commits = commits
-    commits_as HasStopped m n commits = commits
+    commits_as other m n commits = commits
 
     pub commits_behind : CommitsBy k acted old behind
     commits_behind m shows = commits_as acted m (stepped given m (Act k)) (done m shows).commits
@@ -349,10 +298,5 @@ module _ (old mid : Core) (is : IsCore old) (accepted : IsAccepted old.plan.now)
 
 -- a step that leaves no place leaves the word as it is
 pub word_stays : (acted : Acted) → ((place : Place) → acted ≡ Failed place → ⊥) → (w : ℕ) (word : Option Place) → IsWord word w → IsWord (word_by acted word) w
-word_stays Done other w word is = is
-word_stays Commit other w word is = is
-word_stays (Empty j) other w word is = is
-word_stays (Full j) other w word is = is
 word_stays (Failed place) other w word is = absurd (other place refl)
-word_stays AtTheLimit other w word is = is
-word_stays HasStopped other w word is = is
+word_stays any other w word is = is

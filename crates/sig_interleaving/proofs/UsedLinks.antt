@@ -1,10 +1,5 @@
 -- The links that the actors of a plan use.
-use Rattle.sig_interleaving.proofs.Common.{◌≡◌, ◌<◌, ◌+◌, ◌∙◌, ℕ, zero, suc, length, ap, arith, Contains, Some, slice_get, range_with_len, code_of, NamesWithin, IsAccepted, PlanView, StepKind, Do, Send, Receive, Report, Collect, Commit, step_names, step_coded, MayDo, MayUse, in_range}
-
-pub range_get : (a n k : ℕ) → k < n → slice_get (range_with_len a n) k ≡ Some (a + k)
-range_get a zero k lt = absurd (omega (arith, lt))
-range_get a (suc n) zero lt = ap (λ i. Some i) (let e : a ≡ a + 0 = omega arith in e)
-range_get a (suc n) (suc k) lt = range_get (a + 1) n k (omega (arith, lt)) ∙ ap (λ i. Some i) (let e : a + 1 + k ≡ a + suc k = omega arith in e)
+use Rattle.sig_interleaving.proofs.Common.{◌≡◌, ◌<◌, ℕ, length, arith, Contains, range_with_len, code_of, NamesWithin, IsAccepted, PlanView, StepKind, Do, Send, Receive, Report, Collect, Commit, step_names, step_coded, MayDo, MayUse, in_range}
 
 pub may_use : (plan : PlanView) → IsAccepted plan → (k n : ℕ) → n ≡ length plan.links → MayUse plan k (range_with_len 0 n) (range_with_len 0 n)
 may_use plan accepted k n count number step at = by step.kind (step_names plan accepted k (code_of plan k) (step_coded plan k number step at) number step at) where

@@ -5,10 +5,9 @@ ghost use Rattle.sig_interleaving.specs.Prelude.{IfOk, OnErr, OnOk, length, true
 ghost use Rattle.sig_interleaving.specs.inner.Acting.{CommitsBy, IsStepped, TakesTurnAt, changes};
 ghost use Rattle.sig_interleaving.specs.Cores.{Happened, IsCore, IsSameRun, LeavesLess, TellsChange};
 
-use crate::plans::plans_are_accepted;
 use crate::state::Core;
 use sig_dd::Steps;
-use sig_step::Acted;
+use sig_step::{Acted, plans_are_accepted};
 use sig_text::{Sink, WriteFault};
 use std::marker::Brand;
 use std::sync::ledger::{Blank, Ledger};

@@ -5,10 +5,10 @@ ghost use Rattle.sig_interleaving.specs.Prelude.{Some, Core as ModelCore, cause_
 ghost use Rattle.sig_interleaving.specs.Cores.{IsCore, Shows, given_of};
 ghost use Rattle.sig_interleaving.specs.Finishing.{cause_of_number, instants_of};
 
-use crate::plans::{ops_of, order_of};
 use crate::state::Core;
 use sig_base::{OpId, Place};
 use sig_plan::{Cause, Ended};
+use sig_step::{ops_of, order_of};
 
 impl<'a> Core<'a> {
     /// The instants before that of the collector, and the cause that the failure word names.

@@ -7,9 +7,9 @@ ghost use Rattle.sig_interleaving.specs.Finishing.{HasEnded, IsEndOf, LeadsWithi
 ghost use Rattle.sig_interleaving.specs.Schedules.{BeginsTheText, GoesOn, HasTheEnd, HoldsOf, KeepsToTheReference, RecordsNoneBefore};
 
 use crate::laws::cores_keep_to_the_plan;
-use crate::plans::plans_are_accepted;
 use crate::state::Core;
 use sig_plan::Ended;
+use sig_step::plans_are_accepted;
 use sig_text::{Sink, WriteFault};
 
 impl<'a> Core<'a> {

@@ -4,10 +4,10 @@ ghost use Rattle.sig_interleaving.specs.Cores.{IsCore};
 ghost use Rattle.sig_interleaving.specs.Schedules.{AreBounded, BeginsTheText, GoesOn, HasTheEnd, HoldsOf, InEachRun, KeepsToTheReference, RecordsNoneBefore};
 ghost use Rattle.sig_kernel.specs.Validity.{AreFlowsFor};
 
-use crate::plans::plans_are_accepted;
 use crate::state::Core;
 use sig_kernel::Inputs;
 use sig_plan::Plan;
+use sig_step::plans_are_accepted;
 
 /// A law: what holds behind each list of events, over links of each capacity from 1 and up to each limit
 /// from 1.

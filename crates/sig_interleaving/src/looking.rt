@@ -24,20 +24,6 @@ impl<'a> Core<'a> {
         if self.word == u64::MAX {
             return false;
         }
-        self.look_at_word(k)
-    }
-
-    /// The same, whatever the word is.
-    fn look_at_word(&mut self, k: u32) -> bool
-        requires { IsCore self.old }
-        ensures core { IsCore self.new }
-        ensures run { IsSameRun self.old self.new }
-        ensures happened { Keeps (Look k) self.old self.new }
-        ensures answer { TellsChange self.old (Look k) result }
-        ensures left { LeavesLess self.old self.new result }
-        ensures touches { Touches k None self.old self.new }
-        ensures word { self.new.word ≡ self.old.word }
-    {
         if k as usize >= self.states.len() {
             return false;
         }

@@ -9,12 +9,12 @@ ghost use Rattle.sig_interleaving.specs.Schedules.{AreBounded, BeginsTheText, Go
 use crate::answer::CoreAnswer;
 use crate::laws::runs_keep_to_the_plan;
 use crate::lists::Lists;
-use crate::plans::{actors_in, links_in, outputs_of};
+use crate::plans::links_in;
 use crate::state::Core;
-use sig_flow::OutputLines;
 use sig_kernel::Inputs;
 use sig_plan::Plan;
-use sig_step::ClusterState;
+use sig_step::{ClusterState, actors_in};
+use sig_values::lines_for;
 use std::alloc::Global;
 
 impl<'a> Core<'a> {
@@ -49,7 +49,7 @@ impl<'a> Core<'a> {
             limit,
             states: opened(alloc, plan, inputs, limit)?,
             lists: Lists::new(alloc, links_in(plan), capacity as usize)?,
-            lines: OutputLines::new(alloc, outputs_of(plan))?,
+            lines: lines_for(alloc, plan)?,
             word: u64::MAX,
         })
     }

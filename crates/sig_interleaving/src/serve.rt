@@ -6,8 +6,8 @@ ghost use Rattle.sig_interleaving.specs.Cores.{IsCore, IsReached, IsSameRun};
 ghost use Rattle.sig_interleaving.specs.Finishing.{LeadsTo};
 ghost use Rattle.sig_interleaving.specs.inner.Resting.{RestBelow, SeesNothing, Serves};
 
-use crate::plans::plans_are_accepted;
 use crate::state::Core;
+use sig_step::plans_are_accepted;
 use sig_text::{Sink, WriteFault};
 
 impl<'a> Core<'a> {

@@ -1,7 +1,7 @@
 pub mod Common
 pub mod Complete
 pub mod OneLoad
-mod Stopped
+pub mod Stopped
 mod Counted
 pub use Common.*
 pub use Complete.*

@@ -1,6 +1,5 @@
 -- Two instants of an accepted kernel with the same memories and next values agree, place by place of the compiled order.
-use Rattle.sig_meaning_laws.proofs.Common.{◌≡◌, ◌<◌, ◌≤◌, ◌⊎◌, inl, inr, ℕ, zero, suc, ℤ, Bool, true, false, List, [], ◌∷◌, length, map, refl, ap, sym, subst, ◌∙◌, arith, Contains, Option, None, Some, is_some, slice_get, slice_index, and_parts, get_or_default, length-map, All-contains, AreOfKinds, Instant, Range, Seen, Unbounded, seen_at, Kind, Integer, Boolean, SigId, Signal, abstraction_of, status_of, Allows, KeepsTo, AreInOrder, is_condition, is_free, signal_id, Reaction, Speaks, is_boolean_kind, is_present, status_at, abstract_presence, abstract_speaks, abstract_status, Depends, truth_of, IsReaction, Memory, kind_at, kind_of, IsValid, Kernel, IsNext, Registers, is_true, truths_of, HasOperations, Operation, operations_of, IsCompiledOrder, Needs, Precedes, Writes, OpKind, Read, Compute, Left, Right, DelayRead, Store, present_written, guards_alone, needed_earlier, read_earlier, stands_somewhere, some_at, contains_at, slice_get_within, cases_eq}
-use Rattle.sig_base.specs.declared.ids.Kind.TheVariants.{Event}
+use Rattle.sig_meaning_laws.proofs.Common.{◌≡◌, ◌<◌, ◌≤◌, ◌⊎◌, inl, inr, ℕ, zero, suc, ℤ, Bool, true, false, List, [], ◌∷◌, length, map, refl, ap, sym, subst, ◌∙◌, arith, Contains, Option, None, Some, is_some, slice_get, slice_index, and_parts, get_or_default, length-map, All-contains, AreOfKinds, Instant, Range, Seen, Unbounded, seen_at, Kind, Boolean, SigId, Signal, abstraction_of, status_of, Allows, KeepsTo, AreInOrder, is_condition, is_free, signal_id, Reaction, Speaks, is_boolean_kind, is_present, status_at, abstract_presence, abstract_speaks, abstract_status, Depends, truth_of, IsReaction, Memory, kind_at, kind_of, IsValid, Kernel, IsNext, Registers, is_true, truths_of, HasOperations, Operation, operations_of, IsCompiledOrder, Needs, Precedes, Writes, OpKind, Read, present_written, guards_alone, needed_earlier, read_earlier, stands_somewhere, some_at, contains_at, slice_get_within, cases_eq}
 use Rattle.sig_meaning_laws.proofs.Values.{all_depend, all_seen, form_for, none_where, value, value_by}
 
 -- truths that agree on the variables on which a guard depends give it one value
@@ -24,9 +23,8 @@ boolean_kind : (owner : Option Signal) → is_boolean_kind (kind_of owner) ≡ t
 boolean_kind None is = absurd (let e : false ≡ true = is in cc)
 boolean_kind (Some signal) is = (signal, refl, by signal.kind is) where
   by : (kind : Kind) → is_boolean_kind (Some kind) ≡ true → kind ≡ Boolean
-  by Integer is = absurd (let e : false ≡ true = is in cc)
   by Boolean is = refl
-  by Event is = absurd (let e : false ≡ true = is in cc)
+  by _ is = absurd (let e : false ≡ true = is in cc)
 
 -- a condition is a boolean signal
 pub condition_signal : (kernel : Kernel) (conditions : List SigId) → AreInOrder kernel conditions → (v : ℕ) (c : SigId) → slice_get conditions v ≡ Some c
@@ -93,11 +91,7 @@ value_by_next : (kernel : Kernel) (memory : Memory) (next other : ℕ → ℤ) (
 value_by_next kernel memory next other r p agree = by p.kind refl where
   by : (kind : OpKind) → p.kind ≡ kind → value_by memory next r p.reads (form_for kernel p.equation) kind ≡ value_by memory other r p.reads (form_for kernel p.equation) kind
   by (Read x) e = agree x e
-  by Compute e = refl
-  by Left e = refl
-  by Right e = refl
-  by DelayRead e = refl
-  by (Store f) e = refl
+  by _ e = refl
 
 module _ (kernel : Kernel) (conditions : List SigId) (operations : List Operation) (order : List ℕ) (c : Compiled kernel conditions operations order)
     (memory : Memory) (next other : ℕ → ℤ) (a b : Instant) (is : IsNext kernel memory next a) (also : IsNext kernel memory other b) where
@@ -182,14 +176,13 @@ module _ (kernel : Kernel) (conditions : List SigId) (operations : List Operatio
 
   same_lists : (range : Range) (kinds : List Kind) (s t : Instant) → AreOfKinds range kinds s → AreOfKinds range kinds t → ((x : ℕ) → x < length kinds → seen_at s x ≡ seen_at t x) → s ≡ t
   same_lists range [] [] [] one two same = refl
-  same_lists range [] [] (z ∷ t) one two same = absurd two
   same_lists range [] (y ∷ s) t one two same = absurd one
   same_lists range (kind ∷ kinds) [] t one two same = absurd one
-  same_lists range (kind ∷ kinds) (y ∷ s) [] one two same = absurd two
   same_lists range (kind ∷ kinds) (y ∷ s) (z ∷ t) one two same =
       let first : y ≡ z = same 0 (omega arith) in
       let rest : s ≡ t = same_lists range kinds s t one.1 two.1 (λ x lt. same (suc x) (omega (arith, lt))) in
       cc
+  same_lists range _ _ _ one two same = absurd two
 
   pub same_instants : ((i : ℕ) → ReadsAgree i) → a ≡ b
   same_instants agree = same_lists Unbounded (map (λ (signal : Signal). signal.kind) kernel.signals) a b is.is.kinds also.is.kinds

@@ -8,7 +8,7 @@ pub use Rattle.std.specs.Prelude.{⊤}
 pub use Rattle.sig_lists.proofs.Fronts.{no_more}
 pub use Rattle.sig_lists.proofs.Places.{got}
 pub use Rattle.sig_lists.proofs.Truths.{not_true}
-pub use Rattle.sig_base.specs.Functions.{Difference, Greater, GreaterEqual, Less, LessEqual, Negative, Product, Quotient, Remainder, Sum, operand_count}
+pub use Rattle.sig_base.specs.Functions.{Difference, Greater, GreaterEqual, Less, LessEqual, MayDivide, Negative, Product, Quotient, Remainder, Sum, operand_count}
 pub use Rattle.sig_base.specs.Traces.{Fits, IsLongest, NoneSilent}
 pub use Rattle.sig_base.specs.declared.ids.Kind.TheVariants.{Event as AnEvent}
 pub use Rattle.sig_base.specs.declared.place.Place.{Place}
@@ -45,3 +45,4 @@ pub use Rattle.sig_meaning_laws.specs.Ends.{IsCut, IsWithinBounds, StopsBefore}
 pub use Rattle.sig_meaning_laws.specs.Faults.{IsFaultAt, IsFirstFault}
 pub use Rattle.sig_meaning_laws.specs.Outcomes.{IsAt, IsOutcome}
 pub use Rattle.sig_meaning_laws.specs.Reactions.{HasNextValues, HasOneReaction, IsNext, RemembersValues}
+pub use Rattle.sig_plan.proofs.Lists.{signal_same}

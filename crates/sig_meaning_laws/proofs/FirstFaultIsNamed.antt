@@ -31,12 +31,10 @@ beyond_flow (w ∷ flow) last (v ∷ values) le is =
 
 have_moved : (a b : Instant) (operands : List Operand) (values : List ℤ) → ((x : SigId) → Contains (signals_of operands) x → seen_at a x.0 ≡ seen_at b x.0) → HaveValues a operands values → HaveValues b operands values
 have_moved a b [] [] same have = tt
-have_moved a b [] (v ∷ values) same have = absurd have
-have_moved a b (Sig x ∷ operands) [] same have = absurd have
-have_moved a b (Const k ∷ operands) [] same have = absurd have
 have_moved a b (Sig x ∷ operands) (v ∷ values) same have =
     (sym (same x (contains_head x (signals_of operands))) ∙ have.0, have_moved a b operands values (λ y there. same y (contains_later x y (signals_of operands) there)) have.1)
 have_moved a b (Const k ∷ operands) (v ∷ values) same have = (have.0, have_moved a b operands values same have.1)
+have_moved a b _ _ same have = absurd have
 
 module _ (kernel : Kernel) (conditions : List SigId) (operations : List Operation) (order : List ℕ) (c : Compiled kernel conditions operations order) (flows : List (List ℤ)) (f : Fitting kernel flows)
     (trace : Trace) (clean : IsClean kernel flows (length trace) trace) (instant : Instant) (reference : IsReference kernel flows (suc (length trace)) (trace ++ instant ∷ [])) where

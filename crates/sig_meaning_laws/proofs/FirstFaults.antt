@@ -52,12 +52,7 @@ module _ (kernel : Kernel) (presence : Presence) where
 
   stores_either : (number : EqId) (form : Form) → HasForm number form → All IsEither (stores_of kernel.signals presence number form)
   stores_either number (Delay y x initial) has = only IsEither _ ((λ z e. absurd (let f : Store number ≡ Read z = e in cc)), (λ e z o ps kind same is. absurd (let f : Store number ≡ Compute = kind in cc)))
-  stores_either number (Fun y op operands) has = All-nil IsEither
-  stores_either number (When y x b) has = All-nil IsEither
-  stores_either number (WhenConst y constant b) has = All-nil IsEither
-  stores_either number (Default y u v) has = All-nil IsEither
-  stores_either number (Sync x y) has = All-nil IsEither
-  stores_either number (Event y x) has = All-nil IsEither
+  stores_either number _ has = All-nil IsEither
 
   all_either : All IsEither (operations_of kernel presence)
   all_either = each_operation IsEither kernel presence HasForm (has_form kernel)

@@ -78,9 +78,8 @@ extended_at (signal ∷ inputs) (flow ∷ flows) count (suc input) same lt = ext
 
 extended_length : (inputs : List Signal) (flows : List (List ℤ)) (count : ℕ) → length flows ≡ length inputs → length (map (extended_by count) (zip inputs flows)) ≡ length flows
 extended_length [] [] count same = refl
-extended_length [] (flow ∷ flows) count same = absurd (omega (arith, same))
-extended_length (signal ∷ inputs) [] count same = absurd (omega (arith, same))
 extended_length (signal ∷ inputs) (flow ∷ flows) count same = ap suc (extended_length inputs flows count (omega (arith, same)))
+extended_length _ _ count same = absurd (omega (arith, same))
 
 -- each input has the values of its flow, and then one value for ever
 abbrev pub Follows : Kernel → List (List ℤ) → Trace → Type 0

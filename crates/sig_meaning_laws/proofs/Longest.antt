@@ -1,6 +1,5 @@
 -- Lemmas on the longest trace of a kernel that has one reaction.
-use Rattle.sig_meaning_laws.proofs.Common.{◌≡◌, ◌≤◌, ◌<◌, ◌+◌, ◌++◌, ◌⊎◌, inl, inr, ℕ, zero, suc, ℤ, Bool, true, false, List, [], ◌∷◌, length, get_or, map, refl, ap, sym, subst, ◌∙◌, arith, append_assoc, None, Some, AllByRecursion, Function, Gives, AreOfKinds, Bounded, Fits, Instant, IsLongest, IsOfKind, IsPrefixOf, NoneSilent, Seen, Trace, Unbounded, flow_of, has_64_bits, reduce, seen_at, Kind, Integer, Boolean, fits_by_test, fits_reduced, prefix_fits, one_longest, speaks, prefix_length, HaveValues, IsFunction, IsKernelTrace, IsReaction, Meets, Memory, function_of, remembered, Equation, Form, Fun, Delay, When, WhenConst, Default, Sync, Event as EventOf, Operand, Sig, Const, Kernel, comes_from, goes_on, prefix_trace, reduced_trace, wide_trace, IsCut, IsWithinBounds, StopsBefore, IsReference, divides_by_zero, cases_eq}
-use Rattle.sig_base.specs.declared.ids.Kind.TheVariants.{Event}
+use Rattle.sig_meaning_laws.proofs.Common.{◌≡◌, ◌≤◌, ◌<◌, ◌+◌, ◌++◌, ◌⊎◌, inl, inr, ℕ, zero, suc, ℤ, Bool, true, false, List, [], ◌∷◌, length, get_or, map, refl, ap, sym, subst, ◌∙◌, arith, append_assoc, None, Some, AllByRecursion, Function, Gives, AreOfKinds, Bounded, Fits, Instant, IsLongest, IsOfKind, IsPrefixOf, NoneSilent, Seen, Trace, Unbounded, flow_of, has_64_bits, reduce, seen_at, Kind, Integer, fits_by_test, fits_reduced, prefix_fits, one_longest, speaks, prefix_length, HaveValues, IsFunction, IsKernelTrace, IsReaction, Meets, Memory, function_of, remembered, Equation, Form, Fun, Operand, Sig, Const, Kernel, comes_from, goes_on, prefix_trace, reduced_trace, wide_trace, IsCut, IsWithinBounds, StopsBefore, IsReference, divides_by_zero, cases_eq}
 use Rattle.sig_meaning_laws.proofs.Flows.{fits_follows, follows_fits, last_value, of_prefix, within_flow}
 use Rattle.sig_meaning_laws.proofs.Numbers.{at_most_or}
 use Rattle.sig_meaning_laws.proofs.References.{Fitting, reference_begins, some_reference, split_last}
@@ -20,14 +19,12 @@ decide_kind Integer (Some v) is = by (has_64_bits v) refl where
   by : (b : Bool) → has_64_bits v ≡ b → Decided (IsOfKind Bounded Integer (Some v))
   by true e = inl ((fits_by_test v).0 e)
   by false e = inr (λ has. let t : has_64_bits v ≡ true = (fits_by_test v).1 has in cc)
-decide_kind Boolean (Some v) is = inl is
-decide_kind Event (Some v) is = inl is
+decide_kind _ (Some v) is = inl is
 
 decide_kinds : (kinds : List Kind) (instant : Instant) → AreOfKinds Unbounded kinds instant → Decided (AreOfKinds Bounded kinds instant)
 decide_kinds [] [] are = inl tt
-decide_kinds [] (seen ∷ instant) are = absurd are
-decide_kinds (kind ∷ kinds) [] are = absurd are
 decide_kinds (kind ∷ kinds) (seen ∷ instant) are = both (decide_kind kind seen are.0) (decide_kinds kinds instant are.1)
+decide_kinds _ _ are = absurd are
 
 decide_gives : (function : Function) (operands : List ℤ) (v : ℤ) → Gives Unbounded function operands v → Decided (Gives Bounded function operands v)
 decide_gives function operands v is = by (divides_by_zero function operands) refl where
@@ -38,20 +35,18 @@ decide_gives function operands v is = by (divides_by_zero function operands) ref
 -- operands have one list of values
 pub same_values : (instant : Instant) (operands : List Operand) (us vs : List ℤ) → HaveValues instant operands us → HaveValues instant operands vs → us ≡ vs
 same_values instant [] [] [] a b = refl
-same_values instant [] [] (v ∷ vs) a b = absurd b
 same_values instant [] (u ∷ us) vs a b = absurd a
 same_values instant (Sig x ∷ operands) [] vs a b = absurd a
-same_values instant (Sig x ∷ operands) (u ∷ us) [] a b = absurd b
 same_values instant (Sig x ∷ operands) (u ∷ us) (v ∷ vs) a b =
     let rest : us ≡ vs = same_values instant operands us vs a.1 b.1 in
     let e : Some u ≡ Some v = sym a.0 ∙ b.0 in
     cc
 same_values instant (Const constant ∷ operands) [] vs a b = absurd a
-same_values instant (Const constant ∷ operands) (u ∷ us) [] a b = absurd b
 same_values instant (Const constant ∷ operands) (u ∷ us) (v ∷ vs) a b =
     let rest : us ≡ vs = same_values instant operands us vs a.1 b.1 in
     let e : u ≡ v = sym a.0 ∙ b.0 in
     cc
+same_values instant _ _ _ a b = absurd b
 
 decide_function : (function : Function) (instant : Instant) (operands : List Operand) (seen : Seen) → IsFunction Unbounded function instant operands seen
     → Decided (IsFunction Bounded function instant operands seen)
@@ -63,12 +58,7 @@ decide_function function instant operands (Some v) is = by (decide_gives functio
 
 decide_form : (memory : Memory) (instant : Instant) (form : Form) → Meets Unbounded memory instant form → Decided (Meets Bounded memory instant form)
 decide_form memory instant (Fun y op operands) met = decide_function (function_of op) instant operands (seen_at instant y.0) met
-decide_form memory instant (Delay y x initial) met = inl met
-decide_form memory instant (When y x b) met = inl met
-decide_form memory instant (WhenConst y c b) met = inl met
-decide_form memory instant (Default y u v) met = inl met
-decide_form memory instant (Sync x y) met = inl met
-decide_form memory instant (EventOf y x) met = inl met
+decide_form memory instant _ met = inl met
 
 decide_equations : (memory : Memory) (instant : Instant) (equations : List Equation)
     → AllByRecursion (λ (equation : Equation). Meets Unbounded memory instant equation.form) equations
@@ -172,12 +162,11 @@ some_cut {kernel} {flows} f (suc limit) = by (some_cut f limit) where
       at_instant trace s.1 c at next (decide_bounds kernel flows trace s.1 (comes_from Unbounded kernel trace s.1 next.is).1) where
         same_front : (trace front : Trace) (last : Instant) → IsPrefixOf trace (front ++ last ∷ []) → length front ≡ length trace → front ≡ trace
         same_front [] [] last begins e = refl
-        same_front [] (x ∷ front) last begins e = absurd (omega (arith, e))
-        same_front (y ∷ trace) [] last begins e = absurd (omega (arith, e))
         same_front (y ∷ trace) (x ∷ front) last begins e =
             let parts : x ∷ (front ++ last ∷ []) ≡ y ∷ (trace ++ begins.0) = begins.1 in
             let rest : front ≡ trace = same_front trace front last (begins.0, cc) (omega (arith, e)) in
             cc
+        same_front _ _ last begins e = absurd (omega (arith, e))
 
         at_instant : (trace : Trace) (instant : Instant) → IsClean kernel flows (length trace) trace → length trace ≡ limit
             → IsReference kernel flows (suc (length trace)) (trace ++ instant ∷ []) → Decided (IsWithinBounds kernel flows trace instant) → (trace : Trace) × IsCleanCut kernel flows (suc limit) trace

@@ -22,9 +22,8 @@ met_place operations order k cause m =
 
 pub kinds_length : (range : Range) (kinds : List Kind) (t : Instant) → AreOfKinds range kinds t → length t ≡ length kinds
 kinds_length range [] [] are = refl
-kinds_length range [] (s ∷ t) are = absurd are
-kinds_length range (kind ∷ kinds) [] are = absurd are
 kinds_length range (kind ∷ kinds) (s ∷ t) are = ap suc (kinds_length range kinds t are.1)
+kinds_length range _ _ are = absurd are
 
 -- a signal that is there has a number below the count
 pub beyond_end : (signals : List Signal) (t : Instant) (x : ℕ) (w : ℤ) → length t ≡ length signals → seen_at t x ≡ Some w → x < length signals

@@ -1,5 +1,5 @@
 -- The operations of a compiled kernel, done in order.
-use Rattle.sig_meaning_laws.proofs.Common.{◌≡◌, ◌<◌, ◌≤◌, ◌⊎◌, inl, inr, ℕ, zero, suc, ℤ, Bool, true, false, cond, List, length, refl, ap, sym, ◌∙◌, arith, Contains, Option, None, Some, is_some, slice_get, slice_index, ◌==◌, eqb-false, eqb-true, get_or_default, Seen, SigId, some_reaction, KeepsTo, Reaction, Speaks, is_present, Memory, Kernel, Registers, is_true, no_registers, truths_of, with_at, with_signal, Operation, Needs, Precedes, Writes, present_written, written_by_one, written_present, guards_alone, needed_earlier, read_earlier, stands_once, stands_somewhere, slice_get_within, some_at}
+use Rattle.sig_meaning_laws.proofs.Common.{◌≡◌, ◌<◌, ◌≤◌, ◌⊎◌, inl, inr, ℕ, zero, suc, ℤ, Bool, true, false, cond, List, length, refl, ap, sym, ◌∙◌, arith, Contains, Option, None, Some, is_some, slice_get, slice_index, ◌==◌, eqb-false, eqb-true, get_or_default, Seen, SigId, some_reaction, KeepsTo, Reaction, Speaks, is_present, Memory, Kernel, Registers, is_true, no_registers, truths_of, with_at, with_signal, Operation, Needs, Precedes, Writes, present_written, written_by_one, written_present, guards_alone, needed_earlier, read_earlier, stands_once, stands_somewhere, slice_get_within, some_at, signal_same}
 use Rattle.sig_meaning_laws.proofs.Agreement.{Compiled, truth_at, value_by_reads}
 use Rattle.sig_meaning_laws.proofs.Numbers.{at_most_or}
 use Rattle.sig_meaning_laws.proofs.Values.{value}
@@ -15,9 +15,6 @@ with_same y v f = by (y.0 == y.0) refl where
   by : (b : Bool) → (y.0 == y.0) ≡ b → with_at y.0 v f y.0 ≡ v
   by true e = ap (λ b. cond b v (f y.0)) e
   by false e = absurd (eqb-false y.0 y.0 e refl)
-
-same_id : (x y : SigId) → x.0 ≡ y.0 → x ≡ y
-same_id x y e = λ j. record { 0 = e j }
 
 module _ (kernel : Kernel) (conditions : List SigId) (operations : List Operation) (order : List ℕ) (memory : Memory) (next : ℕ → ℤ) where
   -- an operation, where its guard holds of the registers
@@ -102,7 +99,7 @@ module _ (kernel : Kernel) (conditions : List SigId) (operations : List Operatio
         let there = some_at conditions v (guards_alone kernel c.valid conditions operations c.has (slice_index order k) q at v depends) in
         let needs : Needs conditions q there.0 = record { variable = v; is = there.1; depends = depends } in
         let same : final there.0.0 ≡ run k there.0.0 = settled k there.0.0 (omega (arith, lt)) (λ number p y is_p writes e.
-        needed_earlier kernel c.valid conditions operations c.has order c.ordered k lt q at there.0 needs number p is_p (writes ∙ ap Some (same_id y there.0 e))) in
+        needed_earlier kernel c.valid conditions operations c.has order c.ordered k lt q at there.0 needs number p is_p (writes ∙ ap Some (signal_same y there.0 e))) in
         truth_at conditions (run k) v there.0 there.1 ∙ ap is_true (sym same) ∙ sym (truth_at conditions final v there.0 there.1))
 
     -- a reaction that keeps to the final truths
@@ -115,7 +112,7 @@ module _ (kernel : Kernel) (conditions : List SigId) (operations : List Operatio
     one_writer i j p x lt at writes done below w =
         let also : w.operation.guard truths ≡ true = sym (guard_settled j below w.operation w.is) ∙ w.done in
         let one = written_by_one kernel c.valid conditions operations c.has truths reaction.0 reaction.1 reaction.2 (slice_index order i) (slice_index order j) p w.operation x at w.is writes
-        (w.writes ∙ ap Some (same_id w.signal x w.same)) done also in
+        (w.writes ∙ ap Some (signal_same w.signal x w.same)) done also in
         stands_once Rule count order c.ordered i j lt below one
 
     -- what an operation that is done writes stays

@@ -42,12 +42,7 @@ module _ (kernel : Kernel) (presence : Presence) where
 
   stores_kept : (number : EqId) (form : Form) → HasForm number form → All IsKept (stores_of kernel.signals presence number form)
   stores_kept number (Delay y x initial) has = only IsKept (store_of kernel.signals presence number y x) ((λ e is. refl), (λ is. absurd (let f : Store number ≡ DelayRead = is in cc)))
-  stores_kept number (Fun y op operands) has = All-nil IsKept
-  stores_kept number (When y x b) has = All-nil IsKept
-  stores_kept number (WhenConst y constant b) has = All-nil IsKept
-  stores_kept number (Default y u v) has = All-nil IsKept
-  stores_kept number (Sync x y) has = All-nil IsKept
-  stores_kept number (Event y x) has = All-nil IsKept
+  stores_kept number _ has = All-nil IsKept
 
   one_kept : (p : Operation) → Contains (operations_of kernel presence) p → IsKept p
   one_kept p among = All-contains IsKept (operations_of kernel presence) p
@@ -189,10 +184,9 @@ module _ (kernel : Kernel) (conditions : List SigId) (operations : List Operatio
     by : (k : OpKind) → op.kind ≡ k → IsOutcome kernel flows trace instant p (outcome_by kernel flows actor op k)
     by (Read x) kind = read_outcome x kind (slice_get (get_or flows x.0 []) (actor.taken x.0)) refl
     by Compute kind = compute_outcome op.eq kind refl
-    by Left kind = of_kind Left kind
-    by Right kind = of_kind Right kind
     by DelayRead kind = delay_outcome kind
     by (Store e) kind = store_outcome e kind (first_in actor.registers op.reads)
+    by k kind = of_kind k kind
 
 -- the same behind a trace that is within bounds
 pub is_outcome : (kernel : Kernel) (conditions : List SigId) (operations : List Operation) (order : List ℕ) → Compiled kernel conditions operations order → (flows : List (List ℤ)) → Fitting kernel flows

@@ -5,8 +5,7 @@ use Rattle.sig_meaning_laws.proofs.Flows.{fill, fits_follows, follows_fits, foll
 
 pub wide : (kind : Kind) (v : ℤ) → IsValue Bounded kind v → IsValue Unbounded kind v
 wide Integer v is = tt
-wide Boolean v is = is
-wide Event v is = is
+wide _ v is = is
 
 filled : (kind : Kind) → IsValue Unbounded kind (filler kind)
 filled Integer = tt
@@ -94,12 +93,11 @@ reference_last {kernel} {flows} f count trace instant is = record {
 
 -- a list that is not empty ends
 pub split_last : {A : Type 0} (xs : List A) (n : ℕ) → length xs ≡ suc n → (front : List A) × (last : A) × (xs ≡ front ++ last ∷ []) × (length front ≡ n)
-split_last {A} [] n e = absurd (omega (arith, e))
 split_last {A} (x ∷ []) n e = ([], x, refl, omega (arith, e))
-split_last {A} (x ∷ y ∷ xs) zero e = absurd (omega (arith, e))
 split_last {A} (x ∷ y ∷ xs) (suc n) e =
     let rest = split_last (y ∷ xs) n (omega (arith, e)) in
     (x ∷ rest.0, rest.1, ap (λ list. x ∷ list) rest.2, ap suc rest.3)
+split_last {A} _ _ e = absurd (omega (arith, e))
 
 pub some_reference : {kernel : Kernel} {flows : List (List ℤ)} → Fitting kernel flows → (count : ℕ) → (trace : Trace) × IsReference kernel flows count trace
 some_reference {kernel} {flows} f zero = (

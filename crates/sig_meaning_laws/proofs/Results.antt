@@ -1,5 +1,5 @@
 -- Lemmas on the results of functions, whose integers are all whole numbers.
-use Rattle.sig_meaning_laws.proofs.Common.{◌≡◌, ◌≢◌, ◌⊎◌, inl, inr, ℤ, pos, Bool, true, false, not, ◌&&◌, ◌||◌, List, [], ◌∷◌, length, refl, arith, ◌<ℤ◌, ◌≤ℤ◌, int_lt, int_le, int_eq, Decides-int_eq, ints, Function, Identity, Negative, Not, And, Or, Xor, Equal, NotEqual, Less, LessEqual, Greater, GreaterEqual, Sum, Difference, Product, Quotient, Remainder, Gives, Tells, operand_count, Bounded, Unbounded, divides_by_zero, result_of, truth_value}
+use Rattle.sig_meaning_laws.proofs.Common.{◌≡◌, ◌≢◌, ◌⊎◌, inl, inr, ℤ, pos, Bool, true, false, not, ◌&&◌, ◌||◌, List, [], ◌∷◌, length, refl, arith, ◌<ℤ◌, ◌≤ℤ◌, int_lt, int_le, int_eq, Decides-int_eq, ints, Function, Identity, Negative, Not, And, Or, Xor, Equal, NotEqual, Less, LessEqual, Greater, GreaterEqual, Sum, Difference, Product, Quotient, Remainder, Gives, Tells, operand_count, Bounded, Unbounded, divides_by_zero, result_of, truth_value, Range, MayDivide}
 
 -- a test that decides a statement
 pub record Tests (b : Bool) (Statement : Type 0) : Type 0 where
@@ -88,47 +88,38 @@ determined Quotient (a ∷ b ∷ []) v is = is.1
 determined Remainder (a ∷ b ∷ []) v is = is.1
 determined function operands v is = absurd is
 
+-- where it does not divide by 0, a function gives in each range what it gives in another
+may_divide : (range : Range) (b : ℤ) → (range ≡ Bounded → int_eq b (pos 0) ≡ false) → MayDivide range b
+may_divide Bounded b apart = (equal b (pos 0)).no (apart refl)
+may_divide Unbounded b apart = tt
+
+other_range : (function : Function) (a b : Range) (operands : List ℤ) (v : ℤ) → (b ≡ Bounded → divides_by_zero function operands ≡ false) → Gives a function operands v → Gives b function operands v
+other_range Identity a b (x ∷ []) v apart is = is
+other_range Negative a b (x ∷ []) v apart is = is
+other_range Not a b (x ∷ []) v apart is = is
+other_range And a b (x ∷ y ∷ []) v apart is = is
+other_range Or a b (x ∷ y ∷ []) v apart is = is
+other_range Xor a b (x ∷ y ∷ []) v apart is = is
+other_range Equal a b (x ∷ y ∷ []) v apart is = is
+other_range NotEqual a b (x ∷ y ∷ []) v apart is = is
+other_range Less a b (x ∷ y ∷ []) v apart is = is
+other_range LessEqual a b (x ∷ y ∷ []) v apart is = is
+other_range Greater a b (x ∷ y ∷ []) v apart is = is
+other_range GreaterEqual a b (x ∷ y ∷ []) v apart is = is
+other_range Sum a b (x ∷ y ∷ []) v apart is = is
+other_range Difference a b (x ∷ y ∷ []) v apart is = is
+other_range Product a b (x ∷ y ∷ []) v apart is = is
+other_range Quotient a b (x ∷ y ∷ []) v apart is = (may_divide b y apart, is.1)
+other_range Remainder a b (x ∷ y ∷ []) v apart is = (may_divide b y apart, is.1)
+other_range function a b operands v apart is = absurd is
+
 -- functions give within 64 bits what they give without bounds
 pub within_bounds : (function : Function) (operands : List ℤ) (v : ℤ) → Gives Bounded function operands v → Gives Unbounded function operands v
-within_bounds Identity (a ∷ []) v is = is
-within_bounds Negative (a ∷ []) v is = is
-within_bounds Not (a ∷ []) v is = is
-within_bounds And (a ∷ b ∷ []) v is = is
-within_bounds Or (a ∷ b ∷ []) v is = is
-within_bounds Xor (a ∷ b ∷ []) v is = is
-within_bounds Equal (a ∷ b ∷ []) v is = is
-within_bounds NotEqual (a ∷ b ∷ []) v is = is
-within_bounds Less (a ∷ b ∷ []) v is = is
-within_bounds LessEqual (a ∷ b ∷ []) v is = is
-within_bounds Greater (a ∷ b ∷ []) v is = is
-within_bounds GreaterEqual (a ∷ b ∷ []) v is = is
-within_bounds Sum (a ∷ b ∷ []) v is = is
-within_bounds Difference (a ∷ b ∷ []) v is = is
-within_bounds Product (a ∷ b ∷ []) v is = is
-within_bounds Quotient (a ∷ b ∷ []) v is = (tt, is.1)
-within_bounds Remainder (a ∷ b ∷ []) v is = (tt, is.1)
-within_bounds function operands v is = absurd is
+within_bounds function operands v is = other_range function Bounded Unbounded operands v (λ e. cc) is
 
 -- a function that does not divide by 0 gives within 64 bits what it gives
 pub bounded_gives : (function : Function) (operands : List ℤ) (v : ℤ) → divides_by_zero function operands ≡ false → Gives Unbounded function operands v → Gives Bounded function operands v
-bounded_gives Identity (a ∷ []) v apart is = is
-bounded_gives Negative (a ∷ []) v apart is = is
-bounded_gives Not (a ∷ []) v apart is = is
-bounded_gives And (a ∷ b ∷ []) v apart is = is
-bounded_gives Or (a ∷ b ∷ []) v apart is = is
-bounded_gives Xor (a ∷ b ∷ []) v apart is = is
-bounded_gives Equal (a ∷ b ∷ []) v apart is = is
-bounded_gives NotEqual (a ∷ b ∷ []) v apart is = is
-bounded_gives Less (a ∷ b ∷ []) v apart is = is
-bounded_gives LessEqual (a ∷ b ∷ []) v apart is = is
-bounded_gives Greater (a ∷ b ∷ []) v apart is = is
-bounded_gives GreaterEqual (a ∷ b ∷ []) v apart is = is
-bounded_gives Sum (a ∷ b ∷ []) v apart is = is
-bounded_gives Difference (a ∷ b ∷ []) v apart is = is
-bounded_gives Product (a ∷ b ∷ []) v apart is = is
-bounded_gives Quotient (a ∷ b ∷ []) v apart is = ((equal b (pos 0)).no apart, is.1)
-bounded_gives Remainder (a ∷ b ∷ []) v apart is = ((equal b (pos 0)).no apart, is.1)
-bounded_gives function operands v apart is = absurd is
+bounded_gives function operands v apart is = other_range function Unbounded Bounded operands v (λ e. apart) is
 
 -- and one that divides by 0 gives nothing there
 pub never_by_zero : (function : Function) (values : List ℤ) (v : ℤ) → Gives Bounded function values v → divides_by_zero function values ≡ true → ⊥

@@ -90,12 +90,7 @@ module _ (kernel : Kernel) (valid : IsValid kernel) (flows : List (List ℤ)) (t
 
   stores_small : (number : EqId) (form : Form) → IsEquation number form → All IsSmall (stores_of kernel.signals presence number form)
   stores_small number (Delay y x initial) e = only IsSmall _ (λ z target done reads none. absurd (let f : None ≡ Some z = target in cc))
-  stores_small number (Fun y op operands) e = All-nil IsSmall
-  stores_small number (When y x b) e = All-nil IsSmall
-  stores_small number (WhenConst y constant b) e = All-nil IsSmall
-  stores_small number (Default y u v) e = All-nil IsSmall
-  stores_small number (Sync x y) e = All-nil IsSmall
-  stores_small number (Event y x) e = All-nil IsSmall
+  stores_small number _ e = All-nil IsSmall
 
   is_equation : (k : ℕ) (d : Equation) → k < length kernel.equations → IsEquation (equation_id k) (get_or kernel.equations k d).form
   is_equation k d lt = record {
@@ -129,14 +124,12 @@ module _ (kernel : Kernel) (valid : IsValid kernel) (flows : List (List ℤ)) (t
     small_kind : (kind : Kind) (s : Seen) → ((w : ℤ) → s ≡ Some w → has_64_bits w ≡ true) → IsOfKind Unbounded kind s → IsOfKind Bounded kind s
     small_kind kind None few of = tt
     small_kind Integer (Some v) few of = (fits_by_test v).0 (few v refl)
-    small_kind Boolean (Some v) few of = of
-    small_kind AnEvent (Some v) few of = of
+    small_kind _ (Some v) few of = of
 
     small_kinds : (kinds : List Kind) (t : Instant) → ((x : ℕ) (w : ℤ) → seen_at t x ≡ Some w → has_64_bits w ≡ true) → AreOfKinds Unbounded kinds t → AreOfKinds Bounded kinds t
     small_kinds [] [] few are = tt
-    small_kinds [] (s ∷ t) few are = absurd are
-    small_kinds (kind ∷ kinds) [] few are = absurd are
     small_kinds (kind ∷ kinds) (s ∷ t) few are = (small_kind kind s (λ w e. few 0 w e) are.0, small_kinds kinds t (λ x w e. few (suc x) w e) are.1)
+    small_kinds _ _ few are = absurd are
 
     function_bounded : (number : EqId) (y : SigId) (op : FunOp) (operands : List Operand) → IsEquation number (Fun y op operands)
         → ((c : Computes kernel instant number) → divides_by_zero (function_of c.function) c.values ≡ false) → (s : Seen) → seen_at instant y.0 ≡ s
@@ -152,12 +145,7 @@ module _ (kernel : Kernel) (valid : IsValid kernel) (flows : List (List ℤ)) (t
     form_bounded : (number : EqId) (form : Form) → IsEquation number form → ((c : Computes kernel instant number) → divides_by_zero (function_of c.function) c.values ≡ false)
         → Meets Bounded (remembered trace) instant form
     form_bounded number (Fun y op operands) e no_zero = function_bounded number y op operands e no_zero (seen_at instant y.0) refl e.met
-    form_bounded number (Delay y x initial) e no_zero = e.met
-    form_bounded number (When y x b) e no_zero = e.met
-    form_bounded number (WhenConst y constant b) e no_zero = e.met
-    form_bounded number (Default y u v) e no_zero = e.met
-    form_bounded number (Sync x y) e no_zero = e.met
-    form_bounded number (Event y x) e no_zero = e.met
+    form_bounded number _ e no_zero = e.met
 
     pub bounded_reaction : IsReaction Bounded kernel (remembered trace) instant
     bounded_reaction = record {

@@ -33,8 +33,7 @@ of_kinds signals registers each = of_kinds_from signals registers 0 (λ k signal
 
 constant_is : (kind : Kind) (c : ℤ) → constant_truth (Some kind) c ≡ truth_of_value kind c
 constant_is Integer c = refl
-constant_is Boolean c = refl
-constant_is Event c = refl
+constant_is _ c = refl
 
 one_value : (kind : Kind) → IsValue Unbounded kind (pos 1)
 one_value Integer = tt
@@ -43,8 +42,7 @@ one_value Event = refl
 
 one_truth : (kind : Kind) → truth_of_value kind (pos 1) ≡ true
 one_truth Integer = refl
-one_truth Boolean = refl
-one_truth Event = refl
+one_truth _ = refl
 
 present_truth : (s : Status) (t : Bool) → where_present s true ≡ Some t → t ≡ true
 present_truth None t is = absurd (let e = is in cc)
@@ -337,12 +335,7 @@ module _ (kernel : Kernel) (valid : IsValid kernel) (memory : Memory) (next : �
 
   stores_fit : (number : EqId) (form : Form) → HasEquation number form → All IsFit (stores_of kernel.signals presence number form)
   stores_fit number (Delay y x initial) e = only IsFit _ (λ z target done signal there reads. absurd (let f : None ≡ Some z = target in cc))
-  stores_fit number (Fun y op operands) e = All-nil IsFit
-  stores_fit number (When y x b) e = All-nil IsFit
-  stores_fit number (WhenConst y constant b) e = All-nil IsFit
-  stores_fit number (Default y u v) e = All-nil IsFit
-  stores_fit number (Sync x y) e = All-nil IsFit
-  stores_fit number (EventOf y x) e = All-nil IsFit
+  stores_fit number _ e = All-nil IsFit
 
   pub all_fit : All IsFit (operations_of kernel presence)
   all_fit = each_operation IsFit kernel presence HasEquation

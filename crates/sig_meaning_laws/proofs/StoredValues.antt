@@ -29,12 +29,7 @@ module _ (kernel : Kernel) (presence : Presence) where
       let g : Some (Delay y u i) ≡ Some (Delay z x initial) = sym has ∙ ap (λ (n : EqId). form_for kernel (Some n)) one ∙ is in
       let same : u ≡ x = cc in
       ap (λ w. w ∷ []) same)
-  stores_delayed number (Fun y op operands) has = All-nil ReadsDelayed
-  stores_delayed number (When y x b) has = All-nil ReadsDelayed
-  stores_delayed number (WhenConst y constant b) has = All-nil ReadsDelayed
-  stores_delayed number (Default y u v) has = All-nil ReadsDelayed
-  stores_delayed number (Sync x y) has = All-nil ReadsDelayed
-  stores_delayed number (Event y x) has = All-nil ReadsDelayed
+  stores_delayed number _ has = All-nil ReadsDelayed
 
   one_delayed : (p : Operation) → Contains (operations_of kernel presence) p → ReadsDelayed p
   one_delayed p among = All-contains ReadsDelayed (operations_of kernel presence) p

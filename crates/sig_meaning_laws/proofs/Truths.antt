@@ -1,5 +1,5 @@
 -- What an operation writes is of its signal's kind, and has the truth that an abstract reaction gives to the signal.
-use Rattle.sig_meaning_laws.proofs.Common.{◌≡◌, ◌⊎◌, inl, inr, ℕ, zero, suc, ℤ, pos, Bool, true, false, not, int_le, int_lt, ◌&&◌, ◌||◌, List, [], ◌∷◌, length, refl, ap, sym, subst, ◌∙◌, arith, None, Some, is_some, slice_get, int_eq, and_parts, false≢true, or-false, Function, Not as Negation, And as Conjunction, Or as Disjunction, Xor as Exclusive, Equal, NotEqual, Less, LessEqual, Greater, GreaterEqual, operand_count, IsValue, Unbounded, Kind, Integer, Boolean, Signal, truth_of_value, Reaction, Status, are_statuses, compares, is_status_of, same_status, same_truth, status_at, truth_function, where_true, boolean_row, equality_rows, handed_row, kind_bit, one_operand, sort_of, two_operands, truths_are_same, function_of, function_rows, is_kind, keeps_to_one, kind_is, operands_are, Sort, AnInteger, Truth, FunOp, Id, Neg, Eq, Ne, Lt, Le, Gt, Ge, Add, Sub, Mul, Div, Mod, Operand, is_one, result_of, truth_value}
+use Rattle.sig_meaning_laws.proofs.Common.{◌≡◌, ◌⊎◌, inl, inr, ℕ, zero, suc, ℤ, pos, Bool, true, false, not, int_le, int_lt, ◌&&◌, ◌||◌, List, [], ◌∷◌, length, refl, ap, sym, subst, ◌∙◌, arith, None, Some, is_some, slice_get, int_eq, and_parts, false≢true, or-false, Function, Not as Negation, And as Conjunction, Or as Disjunction, Xor as Exclusive, Equal, NotEqual, Less, LessEqual, Greater, GreaterEqual, operand_count, IsValue, Unbounded, Kind, Integer, Boolean, Signal, truth_of_value, Reaction, Status, are_statuses, compares, is_status_of, same_status, same_truth, status_at, truth_function, where_true, boolean_row, equality_rows, handed_row, kind_bit, one_operand, sort_of, two_operands, truths_are_same, function_of, function_rows, is_kind, keeps_to_one, kind_is, operands_are, Sort, AnInteger, Truth, FunOp, Id, Neg, Eq, Ne, Lt, Le, Gt, Ge, Operand, is_one, result_of, truth_value}
 use Rattle.sig_base.specs.declared.ids.Kind.TheVariants.{Event}
 use Rattle.sig_kernel.specs.declared.equation.FunOp.TheVariants.{Not, And, Or, Xor}
 
@@ -7,9 +7,8 @@ use Rattle.sig_kernel.specs.declared.equation.FunOp.TheVariants.{Not, And, Or, X
 
 pub statuses_equal : (a b : Status) → same_status a b ≡ true → a ≡ b
 statuses_equal None None is = refl
-statuses_equal None (Some b) is = absurd (false≢true is)
-statuses_equal (Some a) None is = absurd (false≢true is)
 statuses_equal (Some a) (Some b) is = ap Some (truths_are_same a b is)
+statuses_equal _ _ is = absurd (false≢true is)
 
 pub some_status : (s : Status) → is_some s ≡ true → (t : Bool) × (s ≡ Some t)
 some_status None is = absurd (false≢true is)
@@ -20,9 +19,8 @@ no_status None is = refl
 no_status (Some t) is = absurd (false≢true (sym is))
 
 pub sampled : (b x : Status) (t : Bool) → where_true b x ≡ Some t → (b ≡ Some true) × (x ≡ Some t)
-sampled None x t is = absurd (let e = is in cc)
 sampled (Some true) x t is = (refl, is)
-sampled (Some false) x t is = absurd (let e = is in cc)
+sampled _ x t is = absurd (let e = is in cc)
 
 pub status_fits : (signals : List Signal) (a : Reaction) (x : ℕ) (signal : Signal) → are_statuses signals a ≡ true → slice_get signals x ≡ Some signal → is_status_of signal.kind (status_at a x) ≡ true
 status_fits [] a x signal are is = absurd (let e = is in cc)
@@ -35,9 +33,8 @@ status_fits (s ∷ signals) (status ∷ a) (suc x) signal are is = status_fits s
 
 -- only a boolean may be false
 pub plain : (kind : Kind) (t : Bool) (v : ℤ) → is_status_of kind (Some t) ≡ true → (kind ≡ Boolean → t ≡ int_eq v (pos 1)) → t ≡ truth_of_value kind v
-plain Integer t v is free = truths_are_same t true is
 plain Boolean t v is free = free refl
-plain Event t v is free = truths_are_same t true is
+plain _ t v is free = truths_are_same t true is
 
 -- ---- functions
 
@@ -50,15 +47,12 @@ IsBit v = (v ≡ pos 0) ⊎ (v ≡ pos 1)
 
 -- where the operands are two
 two_bits : (function : Function) (F : ℤ → ℤ → Bool) → ((a b : ℤ) → result_of function (a ∷ b ∷ []) ≡ truth_value (F a b)) → (values : List ℤ) → length values ≡ 2 → IsBit (result_of function values)
-two_bits function F is [] count = absurd (omega (arith, count))
-two_bits function F is (a ∷ []) count = absurd (omega (arith, count))
 two_bits function F is (a ∷ b ∷ []) count = subst IsBit (sym (is a b)) (bit (F a b))
-two_bits function F is (a ∷ b ∷ c ∷ more) count = absurd (omega (arith, count))
+two_bits function F is _ count = absurd (omega (arith, count))
 
 one_bit : (values : List ℤ) → length values ≡ 1 → IsBit (result_of Negation values)
-one_bit [] count = absurd (omega (arith, count))
 one_bit (a ∷ []) count = bit (not (is_one a))
-one_bit (a ∷ b ∷ more) count = absurd (omega (arith, count))
+one_bit _ count = absurd (omega (arith, count))
 
 module _ (signals : List Signal) where
   row_of_two : (operands : List Operand) (s t : Sort) → operands_are signals operands (s ∷ t ∷ []) ≡ true → length operands ≡ 2
@@ -69,8 +63,7 @@ module _ (signals : List Signal) where
 
   integer_row : (target : Kind) (fits : Bool) → ((is_kind target Integer && fits) || false) ≡ true → (target ≡ Integer) × (fits ≡ true)
   integer_row Integer fits is = (refl, sym (or-false fits) ∙ is)
-  integer_row Boolean fits is = absurd (false≢true is)
-  integer_row Event fits is = absurd (false≢true is)
+  integer_row _ fits is = absurd (false≢true is)
 
   equality_count : (target : Kind) (operands : List Operand) → ((target ≡ Boolean) × ((operands_are signals operands (AnInteger ∷ AnInteger ∷ []) ≡ true) ⊎ (operands_are signals operands (Truth ∷ Truth ∷ []) ≡ true))) → length operands ≡ 2
   equality_count target operands (is, inl row) = row_of_two operands AnInteger AnInteger row
@@ -96,11 +89,7 @@ module _ (signals : List Signal) where
   operands_counted target Le operands fits = row_of_two operands AnInteger AnInteger (boolean_row target (Ints operands) fits).1
   operands_counted target Gt operands fits = row_of_two operands AnInteger AnInteger (boolean_row target (Ints operands) fits).1
   operands_counted target Ge operands fits = row_of_two operands AnInteger AnInteger (boolean_row target (Ints operands) fits).1
-  operands_counted target Add operands fits = row_of_two operands AnInteger AnInteger (integer_row target (Ints operands) fits).1
-  operands_counted target Sub operands fits = row_of_two operands AnInteger AnInteger (integer_row target (Ints operands) fits).1
-  operands_counted target Mul operands fits = row_of_two operands AnInteger AnInteger (integer_row target (Ints operands) fits).1
-  operands_counted target Div operands fits = row_of_two operands AnInteger AnInteger (integer_row target (Ints operands) fits).1
-  operands_counted target Mod operands fits = row_of_two operands AnInteger AnInteger (integer_row target (Ints operands) fits).1
+  operands_counted target _ operands fits = row_of_two operands AnInteger AnInteger (integer_row target (Ints operands) fits).1
 
   -- the result for a boolean is a truth, or that of an operand that is handed on
   pub boolean_result : (op : FunOp) (operands : List Operand) (values : List ℤ) → keeps_to_one signals Boolean operands (function_rows op) ≡ true → length values ≡ length operands
@@ -116,44 +105,21 @@ module _ (signals : List Signal) where
   boolean_result Le operands values fits count = inr (two_bits LessEqual int_le (λ a b. refl) values (count ∙ operands_counted Boolean Le operands fits))
   boolean_result Gt operands values fits count = inr (two_bits Greater (λ a b. int_lt b a) (λ a b. refl) values (count ∙ operands_counted Boolean Gt operands fits))
   boolean_result Ge operands values fits count = inr (two_bits GreaterEqual (λ a b. int_le b a) (λ a b. refl) values (count ∙ operands_counted Boolean Ge operands fits))
-  boolean_result Neg operands values fits count = absurd (false≢true fits)
-  boolean_result Add operands values fits count = absurd (false≢true fits)
-  boolean_result Sub operands values fits count = absurd (false≢true fits)
-  boolean_result Mul operands values fits count = absurd (false≢true fits)
-  boolean_result Div operands values fits count = absurd (false≢true fits)
-  boolean_result Mod operands values fits count = absurd (false≢true fits)
+  boolean_result _ operands values fits count = absurd (false≢true fits)
 
   -- an event is handed on
   pub event_result : (op : FunOp) (operands : List Operand) → keeps_to_one signals Event operands (function_rows op) ≡ true → op ≡ Id
   event_result Id operands fits = refl
-  event_result Neg operands fits = absurd (false≢true fits)
-  event_result Not operands fits = absurd (false≢true fits)
-  event_result And operands fits = absurd (false≢true fits)
-  event_result Or operands fits = absurd (false≢true fits)
-  event_result Xor operands fits = absurd (false≢true fits)
-  event_result Eq operands fits = absurd (false≢true fits)
-  event_result Ne operands fits = absurd (false≢true fits)
-  event_result Lt operands fits = absurd (false≢true fits)
-  event_result Le operands fits = absurd (false≢true fits)
-  event_result Gt operands fits = absurd (false≢true fits)
-  event_result Ge operands fits = absurd (false≢true fits)
-  event_result Add operands fits = absurd (false≢true fits)
-  event_result Sub operands fits = absurd (false≢true fits)
-  event_result Mul operands fits = absurd (false≢true fits)
-  event_result Div operands fits = absurd (false≢true fits)
-  event_result Mod operands fits = absurd (false≢true fits)
+  event_result _ operands fits = absurd (false≢true fits)
 
   -- where a function of truths does not compare integers, it has a truth
   of_one_truth : (op : FunOp) (F : Bool → Bool) → ((x : Bool) → truth_function op (x ∷ []) ≡ Some (F x)) → (truths : List Bool) → length truths ≡ 1 → (t : Bool) × (truth_function op truths ≡ Some t)
-  of_one_truth op F is [] count = absurd (omega (arith, count))
   of_one_truth op F is (x ∷ []) count = (F x, is x)
-  of_one_truth op F is (x ∷ y ∷ more) count = absurd (omega (arith, count))
+  of_one_truth op F is _ count = absurd (omega (arith, count))
 
   of_two_truths : (op : FunOp) (F : Bool → Bool → Bool) → ((x y : Bool) → truth_function op (x ∷ y ∷ []) ≡ Some (F x y)) → (truths : List Bool) → length truths ≡ 2 → (t : Bool) × (truth_function op truths ≡ Some t)
-  of_two_truths op F is [] count = absurd (omega (arith, count))
-  of_two_truths op F is (x ∷ []) count = absurd (omega (arith, count))
   of_two_truths op F is (x ∷ y ∷ []) count = (F x y, is x y)
-  of_two_truths op F is (x ∷ y ∷ z ∷ more) count = absurd (omega (arith, count))
+  of_two_truths op F is _ count = absurd (omega (arith, count))
 
   pub truth_told : (op : FunOp) (operands : List Operand) (truths : List Bool) → keeps_to_one signals Boolean operands (function_rows op) ≡ true → compares signals op operands ≡ false → length truths ≡ length operands
       → (t : Bool) × (truth_function op truths ≡ Some t)
@@ -168,18 +134,12 @@ module _ (signals : List Signal) where
   truth_told Le operands truths fits differs count = absurd (false≢true (sym differs))
   truth_told Gt operands truths fits differs count = absurd (false≢true (sym differs))
   truth_told Ge operands truths fits differs count = absurd (false≢true (sym differs))
-  truth_told Neg operands truths fits differs count = absurd (false≢true fits)
-  truth_told Add operands truths fits differs count = absurd (false≢true fits)
-  truth_told Sub operands truths fits differs count = absurd (false≢true fits)
-  truth_told Mul operands truths fits differs count = absurd (false≢true fits)
-  truth_told Div operands truths fits differs count = absurd (false≢true fits)
-  truth_told Mod operands truths fits differs count = absurd (false≢true fits)
+  truth_told _ operands truths fits differs count = absurd (false≢true fits)
 
 -- ---- values that are handed on
 
 pub handed_value : (target kind : Kind) (v : ℤ) → kind_is (sort_of target) kind ≡ true → IsValue Unbounded kind v → IsValue Unbounded target v
 handed_value Integer kind v fits is = tt
 handed_value Boolean kind v fits is = kind_bit Unbounded kind v fits is
-handed_value Event Integer v fits is = absurd (false≢true fits)
-handed_value Event Boolean v fits is = absurd (false≢true fits)
 handed_value Event Event v fits is = is
+handed_value Event _ v fits is = absurd (false≢true fits)

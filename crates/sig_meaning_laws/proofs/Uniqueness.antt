@@ -40,18 +40,14 @@ module _ (kernel : Kernel) (memory : Memory) (instant : Instant) (is : IsReactio
   -- an operation meets one fault
   same_cause : (flows : List (List ℤ)) (trace : Trace) (q : Operation) (a b : Cause) → MeetsFault q a → MeetsFault q b → HasFault kernel flows trace instant a → HasFault kernel flows trace instant b → a ≡ b
   same_cause flows trace q (Exhausted x) (Exhausted y) one two has also = let e : Read x ≡ Read y = sym one ∙ two in let same : x ≡ y = cc in ap Exhausted same
-  same_cause flows trace q (Exhausted x) (Overflow d) one two has also = absurd (let e : Read x ≡ Compute = sym one ∙ two.0 in cc)
-  same_cause flows trace q (Exhausted x) (ZeroDivisor d) one two has also = absurd (let e : Read x ≡ Compute = sym one ∙ two.0 in cc)
-  same_cause flows trace q (Exhausted x) Limit one two has also = absurd two
-  same_cause flows trace q (Overflow e) (Exhausted y) one two has also = absurd (let f : Compute ≡ Read y = sym one.0 ∙ two in cc)
   same_cause flows trace q (Overflow e) (Overflow d) one two has also = let f : Some e ≡ Some d = sym one.1 ∙ two.1 in let same : e ≡ d = cc in ap Overflow same
   same_cause flows trace q (Overflow e) (ZeroDivisor d) one two has also = absurd (never_both e d (sym one.1 ∙ two.1) has.0 has.1 also.0 also.1)
-  same_cause flows trace q (Overflow e) Limit one two has also = absurd two
-  same_cause flows trace q (ZeroDivisor e) (Exhausted y) one two has also = absurd (let f : Compute ≡ Read y = sym one.0 ∙ two in cc)
   same_cause flows trace q (ZeroDivisor e) (Overflow d) one two has also = absurd (never_both d e (sym two.1 ∙ one.1) also.0 also.1 has.0 has.1)
   same_cause flows trace q (ZeroDivisor e) (ZeroDivisor d) one two has also = let f : Some e ≡ Some d = sym one.1 ∙ two.1 in let same : e ≡ d = cc in ap ZeroDivisor same
-  same_cause flows trace q (ZeroDivisor e) Limit one two has also = absurd two
   same_cause flows trace q Limit b one two has also = absurd one
+  same_cause flows trace q _ Limit one two has also = absurd two
+  same_cause flows trace q (Exhausted x) _ one two has also = absurd (let e : Read x ≡ Compute = sym one ∙ two.0 in cc)
+  same_cause flows trace q _ (Exhausted y) one two has also = absurd (let f : Compute ≡ Read y = sym one.0 ∙ two in cc)
 
 same_operation : (operations : List Operation) (order : List ℕ) (i j : ℕ) (a b : Cause) → i ≡ j → (x : MeetsAt operations order i a) (y : MeetsAt operations order j b) → x.operation ≡ y.operation
 same_operation operations order i j a b same x y =
@@ -115,12 +111,11 @@ module _ (plan : PlanView) (accepted : IsAccepted plan) (flows : List (List ℤ)
   same_named : (trace : Trace) → IsLongest (IsKernelTrace plan.kernel) flows limit trace → (p q : Option Place) (a b : Cause) → IsNamedCause plan.kernel Operations Order flows limit trace a p
       → IsNamedCause plan.kernel Operations Order flows limit trace b q → (p ≡ q) × (a ≡ b)
   same_named trace longest None None a b x y = (refl, x.1 ∙ sym y.1)
-  same_named trace longest None (Some q) a b x y = absurd (omega (arith, x.0, y.0))
-  same_named trace longest (Some p) None a b x y = absurd (omega (arith, x.0, y.0))
   same_named trace longest (Some p) (Some q) a b x y =
       let s = stopped trace longest x.0 in
       let one = one_cause plan.kernel Operations Order flows trace s.instant s.goes a b p q x.1 y.1 in
       (ap Some one.0, one.1)
+  same_named trace longest _ _ a b x y = absurd (omega (arith, x.0, y.0))
 
   pub one_end : (t u : Trace) (p q : Option Place) (a b : Ended) → IsEnd plan flows limit t p a → IsEnd plan flows limit u q b → (t ≡ u) × (p ≡ q) × (a ≡ b)
   one_end t u p q a b x y =

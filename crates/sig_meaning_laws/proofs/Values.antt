@@ -13,32 +13,22 @@ form_for kernel None = None
 form_for kernel (Some e) = form_in (slice_get kernel.equations e.0)
 
 abbrev pub computed : Registers → Option Form → ℤ
-computed registers None = pos 0
 computed registers (Some (Fun y op operands)) = result_of (function_of op) (map (operand_in registers) operands)
 computed registers (Some (When y x b)) = value_in registers x
 computed registers (Some (WhenConst y constant b)) = constant
 computed registers (Some (Event y x)) = pos 1
-computed registers (Some (Default y u v)) = pos 0
-computed registers (Some (Delay y x initial)) = pos 0
-computed registers (Some (Sync x y)) = pos 0
+computed registers _ = pos 0
 
 abbrev pub kept_in : Memory → Option Form → ℤ
-kept_in memory None = pos 0
 kept_in memory (Some (Delay y x initial)) = memory y.0 x.0 initial
-kept_in memory (Some (Fun y op operands)) = pos 0
-kept_in memory (Some (When y x b)) = pos 0
-kept_in memory (Some (WhenConst y constant b)) = pos 0
-kept_in memory (Some (Event y x)) = pos 0
-kept_in memory (Some (Default y u v)) = pos 0
-kept_in memory (Some (Sync x y)) = pos 0
+kept_in memory _ = pos 0
 
 abbrev pub value_by : Memory → (ℕ → ℤ) → Registers → List SigId → Option Form → OpKind → ℤ
 value_by memory next registers reads form (Read x) = next x.0
 value_by memory next registers reads form Compute = computed registers form
-value_by memory next registers reads form Left = first_in registers reads
-value_by memory next registers reads form Right = first_in registers reads
 value_by memory next registers reads form DelayRead = kept_in memory form
 value_by memory next registers reads form (Store e) = pos 0
+value_by memory next registers reads form _ = first_in registers reads
 
 -- the value that an operation writes
 abbrev pub value : Kernel → Memory → (ℕ → ℤ) → Registers → Operation → ℤ
@@ -75,23 +65,17 @@ module _ (kernel : Kernel) (memory : Memory) (next : ℕ → ℤ) (presence : Pr
   writes_depend : (number : EqId) (form : Form) → HasForm number form → All DependsOnReads (writes_of kernel.signals presence number form)
   writes_depend number (Fun y op operands) is = only DependsOnReads _ (λ r s same. by_form number (Fun y op operands) r s is (ap (result_of (function_of op)) (same_operands r s operands same)))
   writes_depend number (When y x b) is = only DependsOnReads _ (λ r s same. by_form number (When y x b) r s is (same_value_in r s x (same x (contains_head x []))))
-  writes_depend number (WhenConst y constant b) is = only DependsOnReads _ (λ r s same. by_form number (WhenConst y constant b) r s is refl)
-  writes_depend number (Event y x) is = only DependsOnReads _ (λ r s same. by_form number (Event y x) r s is refl)
   writes_depend number (Delay y x initial) is = only DependsOnReads _ (λ r s same. refl)
   writes_depend number (Sync x y) is = All-nil DependsOnReads
   writes_depend number (Default y u v) is =
       All-cons DependsOnReads (writing kernel.signals number Left (presence u) y (u ∷ [])) (writing kernel.signals number Right (without (presence v) (presence u)) y (v ∷ []) ∷ [])
       (λ r s same. same_value_in r s u (same u (contains_head u [])))
       (only DependsOnReads _ (λ r s same. same_value_in r s v (same v (contains_head v []))))
+  writes_depend number form is = only DependsOnReads _ (λ r s same. by_form number form r s is refl)
 
   stores_depend : (number : EqId) (form : Form) → HasForm number form → All DependsOnReads (stores_of kernel.signals presence number form)
   stores_depend number (Delay y x initial) is = only DependsOnReads _ (λ r s same. refl)
-  stores_depend number (Fun y op operands) is = All-nil DependsOnReads
-  stores_depend number (When y x b) is = All-nil DependsOnReads
-  stores_depend number (WhenConst y constant b) is = All-nil DependsOnReads
-  stores_depend number (Default y u v) is = All-nil DependsOnReads
-  stores_depend number (Sync x y) is = All-nil DependsOnReads
-  stores_depend number (Event y x) is = All-nil DependsOnReads
+  stores_depend number _ is = All-nil DependsOnReads
 
   pub all_depend : All DependsOnReads (operations_of kernel presence)
   all_depend = each_operation DependsOnReads kernel presence HasForm (has_form kernel) (λ number lt r s same. refl) writes_depend stores_depend
@@ -119,9 +103,6 @@ none_where (Some v) is = absurd (let e : true ≡ false = is in cc)
 
 pub have_map : (instant : Instant) (operands : List Operand) (values : List ℤ) → HaveValues instant operands values → values ≡ map (operand_in (seen_at instant)) operands
 have_map instant [] [] have = refl
-have_map instant [] (v ∷ values) have = absurd have
-have_map instant (Sig x ∷ operands) [] have = absurd have
-have_map instant (Const c ∷ operands) [] have = absurd have
 have_map instant (Sig x ∷ operands) (v ∷ values) have =
     let first : value_in (seen_at instant) x ≡ v = ap (λ (seen : Seen). unwrap_or seen (pos 0)) have.0 in
     let rest : values ≡ map (operand_in (seen_at instant)) operands = have_map instant operands values have.1 in
@@ -130,6 +111,7 @@ have_map instant (Const c ∷ operands) (v ∷ values) have =
     let first : c ≡ v = have.0 in
     let rest : values ≡ map (operand_in (seen_at instant)) operands = have_map instant operands values have.1 in
     cc
+have_map instant _ _ have = absurd have
 
 some_value_in : (instant : Instant) (x : SigId) (v : ℤ) → seen_at instant x.0 ≡ Some v → value_in (seen_at instant) x ≡ v
 some_value_in instant x v is = ap (λ (seen : Seen). unwrap_or seen (pos 0)) is
@@ -197,12 +179,7 @@ module _ (kernel : Kernel) (memory : Memory) (next : ℕ → ℤ) (presence : Pr
 
   stores_seen : (number : EqId) (form : Form) → IsMet number form → All IsSeen (stores_of kernel.signals presence number form)
   stores_seen number (Delay y x initial) is = only IsSeen _ (λ z target done. absurd (let e : None ≡ Some z = target in cc))
-  stores_seen number (Fun y op operands) is = All-nil IsSeen
-  stores_seen number (When y x b) is = All-nil IsSeen
-  stores_seen number (WhenConst y constant b) is = All-nil IsSeen
-  stores_seen number (Default y u v) is = All-nil IsSeen
-  stores_seen number (Sync x y) is = All-nil IsSeen
-  stores_seen number (Event y x) is = All-nil IsSeen
+  stores_seen number _ is = All-nil IsSeen
 
   -- an operation that is done writes what is seen
   pub all_seen : IsValid kernel → IsReaction Unbounded kernel memory instant → ((input : ℕ) (v : ℤ) → input < kernel.inputs → seen_at instant input ≡ Some v → v ≡ next input)

@@ -1,5 +1,5 @@
 -- Presences and reactions in the store, and what they say of a kernel's signals.
-use Rattle.sig_pace.proofs.Common.{◌≡◌, ◌&&◌, ℕ, Bool, true, List, sym, ap, ◌∙◌, IsTrue, IsPossible, IsSignal, Reaction, Speaks, is_present, Holds, Implies, IsRefOf, IsStore, Keeps, Overlap, Spans, StoreView, test, Node, Ref, Holds-kept, IsOver, IsSystem, SystemView, reading, over_two, older_test, in_variables, presence_over, presence_read, solution_newer, solution_older, system_kept, HoldsPresences, IsAskedIn, IsCandidate, presence_in, reactions_in, variables_of, IsBelow, Asked, both_true}
+use Rattle.sig_pace.proofs.Common.{◌≡◌, ◌&&◌, ℕ, Bool, true, List, sym, ap, ◌∙◌, IsTrue, IsPossible, IsSignal, Reaction, Speaks, is_present, Holds, Implies, IsRefOf, IsStore, Keeps, Overlap, Spans, StoreView, test, Node, Ref, Holds-kept, IsOver, IsSystem, SystemView, reading, over_two, in_variables, presence_over, presence_read, solution_newer, solution_older, system_kept, HoldsPresences, IsAskedIn, IsCandidate, presence_in, reactions_in, variables_of, IsBelow, Asked, both_true, test-kept}
 
 pub over_spans : (nodes : List Node) (system : SystemView) (r : Ref) → IsOver nodes system r → Spans nodes r (variables_of system)
 over_spans nodes system r over v d = in_variables system v (over.within v d)
@@ -38,8 +38,8 @@ older_reactions old mid kept asked is x x_lt new p at r made = record {
   holds = made.holds;
   function = λ ts.
       made.function ts ∙ ap (λ q. test mid.nodes asked.solutions ts && test mid.nodes q ts) at
-      ∙ ap (λ b. b && test mid.nodes (presence_in asked.system x) ts) (older_test old mid kept asked.solutions is.over.held ts)
-      ∙ ap (λ b. test old.nodes asked.solutions ts && b) (older_test old mid kept (presence_in asked.system x) (presence_held old asked is x x_lt) ts);
+      ∙ ap (λ b. b && test mid.nodes (presence_in asked.system x) ts) (test-kept old mid kept asked.solutions is.over.held ts)
+      ∙ ap (λ b. test old.nodes asked.solutions ts && b) (test-kept old mid kept (presence_in asked.system x) (presence_held old asked is x x_lt) ts);
 }
 
 -- a signal with its reactions, made in a store that grew
@@ -71,12 +71,12 @@ module _ (old new : StoreView) (kept : Keeps old new) (asked : Asked) (is : IsAs
     below_of : (y : ℕ) → IsSignal asked.kernel.now y → Implies new.nodes r (presence_in asked.system y) → IsBelow asked.kernel.now x y
     below_of y y_lt implies reaction speaks present =
         let at = truths_at reaction speaks present in
-        sym (ap (λ r. is_present r y) at.2) ∙ reads y y_lt at.0 ∙ sym (older_test old new kept (presence_in asked.system y) (presence_held old asked is y y_lt) at.0) ∙ implies at.0 at.1
+        sym (ap (λ r. is_present r y) at.2) ∙ reads y y_lt at.0 ∙ sym (test-kept old new kept (presence_in asked.system y) (presence_held old asked is y y_lt) at.0) ∙ implies at.0 at.1
 
     of_below : (y : ℕ) → IsSignal asked.kernel.now y → IsBelow asked.kernel.now x y → Implies new.nodes r (presence_in asked.system y)
     of_below y y_lt below ts t =
         let at = reacts ts t in
-        older_test old new kept (presence_in asked.system y) (presence_held old asked is y y_lt) ts ∙ sym (reads y y_lt ts) ∙ below (reading old.nodes asked.system ts) at.0 at.1
+        test-kept old new kept (presence_in asked.system y) (presence_held old asked is y y_lt) ts ∙ sym (reads y y_lt ts) ∙ below (reading old.nodes asked.system ts) at.0 at.1
 
     possible_of : Overlap new.nodes r r → IsPossible asked.kernel.now x
     possible_of meets = let at = reacts meets.0 meets.1 in (reading old.nodes asked.system meets.0, at.0, at.1)

@@ -20,10 +20,9 @@ one_more_made old mid new kept asked signals candidates c before here made k d a
 -- the signals of all of them
 pub signals_are : (signals : List ℕ) (candidates : List Candidate) → length candidates ≡ length signals → ((k : ℕ) (c : Candidate) → slice_get candidates k ≡ Some c → c.signal ≡ get_or signals k 0) → signals_of candidates ≡ signals
 signals_are [] [] count each = refl
-signals_are (s ∷ signals) [] count each = absurd (omega (arith, count))
-signals_are [] (c ∷ candidates) count each = absurd (omega (arith, count))
 signals_are (s ∷ signals) (c ∷ candidates) count each =
     ap (λ x. x ∷ signals_of candidates) (each 0 c refl) ∙ ap (λ xs. s ∷ xs) (signals_are signals candidates (omega (arith, count)) (λ k d at. each (suc k) d at))
+signals_are _ _ count each = absurd (omega (arith, count))
 
 pub candidates_are : (old new : StoreView) → Keeps old new → (asked : Asked) → IsAskedIn old asked → (signals : List ℕ) → ((x : ℕ) → Contains signals x → IsSignal asked.kernel.now x) → (candidates : List Candidate)
     → length candidates ≡ length signals → AreMade old new asked signals candidates → AreCandidates new.nodes asked candidates

@@ -1,5 +1,5 @@
 -- What the proofs of this crate cite of std, of the crates below and of its own specs, passed on from one place.
-pub use Rattle.std.proofs.Common.{AllPairs, Bool, Contains, Err, IfErr, IfSome, IsErrAnd, IsTrue, List, MatchOption, None, Ok, Option, Result, Some, [], ap, append_assoc, arith, bytes_eq, codes, cond, count_by, decimal, drop, eq-eqb, eqb, ext_get_or, false, filter, get_or, get_or-append-add, get_or-drop, get_or-take, inl, inr, int_eq, is_some, le-ltb, length, length-append, length-drop, length-take-le, lt-ltb, ltb-true, map, mul-le-mul_right, ne_eqb, not, option_to_list, pos, refl, slice_get, slice_index, slice_index_or, subst, suc, sum_by, sym, take, take_all, take_at, true, zero, ℕ, ℤ, ◌&&◌, ◌*◌, ◌++◌, ◌+◌, ◌-◌, ◌<◌, ◌==◌, ◌^◌, ◌||◌, ◌↔◌, ◌∙◌, ◌∷◌, ◌≡◌, ◌≤◌, ◌⊎◌}
+pub use Rattle.std.proofs.Common.{AllPairs, Bool, Contains, Err, IfErr, IfSome, IsErrAnd, IsTrue, List, MatchOption, None, Ok, Option, Result, Some, [], ap, append_assoc, arith, bytes_eq, codes, cond, count_by, decimal, drop, eq-eqb, eqb, ext_get_or, false, filter, get_or, get_or-append-add, get_or-drop, get_or-take, inl, inr, int_eq, is_some, le-ltb, length, length-append, length-drop, length-take-le, lt-ltb, ltb-true, map, mul-le-mul_right, ne_eqb, not, option_to_list, pos, refl, slice_get, slice_index, slice_index_or, subst, suc, sum_by, sym, take, take_all, take_at, true, zero, ℕ, ℤ, ◌&&◌, ◌*◌, ◌++◌, ◌+◌, ◌-◌, ◌<◌, ◌==◌, ◌^◌, ◌||◌, ◌↔◌, ◌∙◌, ◌∷◌, ◌≡◌, ◌≤◌, ◌⊎◌, option_map}
 pub use Rattle.std.proofs.Math.Decide.{dec_le, map_dec}
 pub use Rattle.std.proofs.lemmas.Bool.{false_from_ne_true, true_from_ne_false}
 pub use Rattle.std.proofs.lemmas.Fmt.{decimal_injective}
@@ -32,10 +32,10 @@ pub use Rattle.sig_rel.proofs.Common.{AllByRecursion, AreConditions, AreLeast, B
 pub use Rattle.sig_solve.proofs.AskedLemmas.{over_two}
 pub use Rattle.sig_solve.proofs.Common.{AreClassesInOrder, Contains-append_left, HasNoRoot, HasRoot, Implies, IsLeast, IsRoot, IsSignal, Overlap, RelAnswer, all_pairs_push, all_statuses, both_true, calls_of, contains_mapped, filter_same, get_or_append_left, get_or_default, in_filter, itself, leaders_of, mapped_from, of_filter, range_drops, range_keeps, rest_of_share, share_of, taken_get, within_range}
 pub use Rattle.sig_solve.proofs.ConditionLists.{conditions_by_number}
-pub use Rattle.sig_solve.proofs.CountLemmas.{calls_fit, halves}
+pub use Rattle.sig_solve.proofs.CountLemmas.{calls_fit, halves, least_one}
 pub use Rattle.sig_solve.proofs.FrameLemmas.{least_below, least_twice}
-pub use Rattle.sig_solve.proofs.RootLemmas.{ordered_leaders}
-pub use Rattle.sig_solve.proofs.StoreLemmas.{more_calls, older_test, out_of_memory, refused}
+pub use Rattle.sig_solve.proofs.RootLemmas.{ordered_leaders, present_within}
+pub use Rattle.sig_solve.proofs.StoreLemmas.{more_calls, out_of_memory, refused}
 pub use Rattle.sig_solve.proofs.SystemLemmas.{in_variables, presence_over, presence_read, solution_newer, solution_older, system_kept, variables_count}
 pub use Rattle.sig_solve.proofs.TriangleLemmas.{first_is_root}
 pub use Rattle.sig_pace.specs.Answers.{IsFromSystem}
@@ -51,3 +51,6 @@ pub use Rattle.sig_pace.specs.inner.Asked.{AreCandidates, HoldsPresences, IsAske
 pub use Rattle.sig_pace.specs.inner.Leaders.{AreIncreasing, AreLeaders}
 pub use Rattle.sig_pace.specs.inner.Names.{FindsNamed, NoneNamedBelow, is_named}
 pub use Rattle.sig_pace.specs.inner.Tops.{AddsTop, AreByNumber, AreMaxima, AreNotBelow, AreTops, IsBelowCandidate, IsBelowOne, IsCover, signals_of}
+pub use Rattle.sig_dd.proofs.Functions.{test-kept}
+pub use Rattle.sig_rel.proofs.GeneralSystems.{someone}
+pub use Rattle.sig_rel.proofs.ValueReactions.{statuses_fit}

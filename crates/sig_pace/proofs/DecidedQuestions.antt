@@ -1,6 +1,5 @@
 -- What is asked of the signals and of the reactions of a kernel is decided, since these are finitely many.
-use Rattle.sig_pace.proofs.Common.{inl, inr, ℕ, suc, Bool, true, false, length, arith, list_all, cases_lt, AllPass-from_list_all, list_all-from_AllPass, IsLeast, IsReaction, Reaction, Speaks, are_statuses, is_silent, meets, Equation, Kernel, map_dec, dec_both, dec_then, dec_truth, Searched, all_options, all_truths, first_below, searched_lists}
-use Rattle.sig_pace.proofs.RenumberedSignals.{statuses_count}
+use Rattle.sig_pace.proofs.Common.{inl, inr, ℕ, suc, Bool, true, false, length, arith, list_all, cases_lt, AllPass-from_list_all, list_all-from_AllPass, IsLeast, IsReaction, Reaction, Speaks, are_statuses, is_silent, meets, Equation, Kernel, map_dec, dec_both, dec_then, dec_truth, Searched, all_options, all_truths, first_below, searched_lists, all_statuses}
 
 -- where there is a number, there is a least one
 pub some_least : (P : ℕ → Type 0) → ((k : ℕ) → Dec (P k)) → (k : ℕ) → P k → (m : ℕ) × IsLeast P m
@@ -30,5 +29,5 @@ module _ (kernel : Kernel) where
 
   pub searched_speaking : Searched (Speaks kernel)
   searched_speaking P decide =
-      map_dec (λ found. (found.0, found.2.0, found.2.1)) (λ found. (found.0, statuses_count kernel.signals found.0 found.1.is.kinds, (found.1, found.2)))
+      map_dec (λ found. (found.0, found.2.0, found.2.1)) (λ found. (found.0, all_statuses kernel.signals found.0 found.1.is.kinds, (found.1, found.2)))
       (searched_lists (all_options all_truths) (length kernel.signals) (λ reaction. Speaks kernel reaction × P reaction) (λ reaction _. dec_then (dec_speaks reaction) (decide reaction)))

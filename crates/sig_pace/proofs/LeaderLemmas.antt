@@ -1,8 +1,5 @@
 -- The least signals of the clock classes are no more than the unknowns.
-use Rattle.sig_pace.proofs.Common.{◌≡◌, ◌<◌, ◌≤◌, ◌⊎◌, inl, inr, ℕ, eqb, count_by, filter, List, length, get_or, sym, ap, ◌∙◌, subst, arith, Contains, range_with_len, cases_lt, eq-eqb, length-filter, AreLeast, itself, Kernel, IsUnknownCount, is_boolean, leaders_of, least_below, least_twice, ordered_leaders, AreLeaders, filter_same, in_filter, of_filter, in_range, within_range}
-
-least_one : (kernel : Kernel) (a b : List ℕ) → AreLeast kernel a → AreLeast kernel b → (s : ℕ) → s < length kernel.signals → get_or a s 0 ≡ get_or b s 0
-least_one kernel a b is_a is_b s lt = omega (arith, is_a.least s (get_or b s 0) lt (is_b.same s lt), is_b.least s (get_or a s 0) lt (is_a.same s lt))
+use Rattle.sig_pace.proofs.Common.{◌≡◌, ◌<◌, ◌≤◌, ◌⊎◌, inl, inr, ℕ, eqb, count_by, filter, List, length, get_or, sym, ap, ◌∙◌, subst, arith, Contains, range_with_len, cases_lt, eq-eqb, length-filter, AreLeast, itself, Kernel, IsUnknownCount, is_boolean, leaders_of, least_below, least_twice, ordered_leaders, AreLeaders, filter_same, in_filter, of_filter, in_range, within_range, least_one}
 
 module _ (kernel : Kernel) (least leaders : List ℕ) (are : AreLeast kernel least) (is : leaders ≡ leaders_of least) where
   leader_there : (s : ℕ) → s < length kernel.signals → Contains leaders (get_or least s 0)

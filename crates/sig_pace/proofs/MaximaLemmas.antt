@@ -1,21 +1,9 @@
 -- The tops among the least signals of all clock classes are the least signals of the maximal clocks. There are two of
 -- them or more exactly where a kernel needs paces.
-use Rattle.sig_pace.proofs.Common.{◌≡◌, ◌<◌, ◌≤◌, inl, inr, ℕ, true, false, List, [], ◌∷◌, length, get_or, refl, sym, ap, ◌∙◌, subst, arith, Contains, zero, suc, None, Some, false≢true, IsPossible, IsDead, IsRoot, IsSignal, Reaction, is_present, is_silent, SameClock, present_together, Kernel, all_statuses, AreLeaders, AreMaximalClocks, IsBelow, IsLeastMaximal, NeedsNoPaces, NeedsPaces, AreMaxima, AreTops, IsCover, signals_of, Candidate, map_get, cases_Bool, contains_cons, contains_head, contains_later, contains_mapped, contains_none, mapped_from, get_or_from_slice_get, slice_get-get_or, slice_get_within}
+use Rattle.sig_pace.proofs.Common.{◌≡◌, ◌<◌, ◌≤◌, inl, inr, ℕ, true, List, [], ◌∷◌, length, get_or, refl, sym, ap, ◌∙◌, subst, arith, Contains, zero, suc, IsPossible, IsDead, IsRoot, IsSignal, is_present, is_silent, SameClock, present_together, Kernel, all_statuses, AreLeaders, AreMaximalClocks, IsBelow, IsLeastMaximal, NeedsNoPaces, NeedsPaces, AreMaxima, AreTops, IsCover, signals_of, Candidate, map_get, cases_Bool, contains_cons, contains_head, contains_later, contains_mapped, contains_none, mapped_from, get_or_from_slice_get, slice_get-get_or, slice_get_within, present_within, someone}
 use Rattle.sig_pace.proofs.TopLemmas.{below_through}
 
 -- ---- what is present
-
--- a signal that is present, where not all are absent
-some_present : (reaction : Reaction) → is_silent reaction ≡ false → (s : ℕ) × (is_present reaction s ≡ true)
-some_present [] loud = absurd (false≢true (sym loud))
-some_present (None ∷ reaction) loud = let rest = some_present reaction loud in (suc rest.0, rest.1)
-some_present (Some b ∷ reaction) loud = (0, refl)
-
--- what is present is among the signals
-present_within : (reaction : Reaction) (s : ℕ) → is_present reaction s ≡ true → s < length reaction
-present_within [] s present = absurd (false≢true present)
-present_within (status ∷ reaction) zero present = omega arith
-present_within (status ∷ reaction) (suc s) present = omega (arith, present_within reaction s present)
 
 possible_signal : (kernel : Kernel) (s : ℕ) → IsPossible kernel s → IsSignal kernel s
 possible_signal kernel s possible = omega (arith, present_within possible.0 s possible.2, all_statuses kernel.signals possible.0 possible.1.is.kinds)
@@ -125,8 +113,8 @@ none_is_dead : (kernel : Kernel) → AreMaxima kernel [] → IsDead kernel
 none_is_dead kernel are reaction is = elim (cases_Bool (is_silent reaction)) [
   | inl e ↦ e
   | inr e ↦
-      let s = some_present reaction e in
-      let at = are.cover s.0 (reaction, record { is = is; some = e }, s.1) in
+      let s = someone reaction e in
+      let at = are.cover s.0 (reaction, record { is = is; some = e }, s.2) in
       absurd (contains_none at.0 at.1)
 ]
 
@@ -134,10 +122,10 @@ one_is_root : (kernel : Kernel) (m : ℕ) → AreMaxima kernel (m ∷ []) → Is
 one_is_root kernel m are = record {
   is = maximal_signal kernel (m ∷ []) are.clocks m (contains_head m []);
   everywhere = λ reaction speaks.
-      let s = some_present reaction speaks.some in
-      let at = are.cover s.0 (reaction, speaks, s.1) in
+      let s = someone reaction speaks.some in
+      let at = are.cover s.0 (reaction, speaks, s.2) in
       elim (contains_cons m at.0 [] at.1) [
-        | inl e ↦ subst (λ x. is_present reaction x ≡ true) e (at.2 reaction speaks s.1)
+        | inl e ↦ subst (λ x. is_present reaction x ≡ true) e (at.2 reaction speaks s.2)
         | inr none ↦ absurd (contains_none at.0 none)
       ];
 }
@@ -148,8 +136,6 @@ few_need_none kernel (m ∷ []) are few = inl (m, one_is_root kernel m are)
 few_need_none kernel (m ∷ n ∷ least) are few = absurd (omega (arith, few))
 
 pub many_need_paces : (kernel : Kernel) (least : List ℕ) → AreMaximalClocks kernel least → 2 ≤ length least → NeedsPaces kernel least
-many_need_paces kernel [] are many = absurd (omega (arith, many))
-many_need_paces kernel (m ∷ []) are many = absurd (omega (arith, many))
 many_need_paces kernel (m ∷ n ∷ least) are many =
     let first = (are.all m).0 (contains_head m (n ∷ least)) in
     let second = (are.all n).0 (contains_later m n (n ∷ least) (contains_head n least)) in
@@ -166,6 +152,7 @@ many_need_paces kernel (m ∷ n ∷ least) are many =
           omega (arith, less, up, down);
       clocks = are;
     }
+many_need_paces kernel _ are many = absurd (omega (arith, many))
 
 -- the signals of the tops, in a list of their own
 pub maxima_asked : (kernel : Kernel) (leaders found : List ℕ) → AreLeaders kernel leaders → IsCover kernel leaders found → (candidates tops : List Candidate) → signals_of candidates ≡ found → AreTops kernel candidates tops → (least : List ℕ) → least ≡ signals_of tops → AreMaxima kernel least

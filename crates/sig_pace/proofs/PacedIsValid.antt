@@ -1,6 +1,5 @@
 -- The paced kernel of a valid kernel is valid.
-use Rattle.sig_pace.proofs.Common.{◌≡◌, ◌<◌, ◌≤◌, ◌+◌, ◌-◌, ◌++◌, ◌&&◌, ◌||◌, ◌==◌, ◌∙◌, ◌^◌, inl, inr, ℕ, zero, suc, Bool, true, false, cond, List, [], ◌∷◌, length, map, take, drop, slice_get, refl, sym, ap, subst, arith, Contains, Some, pos, bytes_eq, count_by, sum_by, IsDistinct, list_all, list_any, codes, decimal, and_from, and_parts, cases_eq, cases_lt, eq-eqb, false_from_ne_true, lt-ltb, ltb-true, ne_eqb, decimal_injective, append_assoc, append_cancel_left, length-append, length-map, length-take-le, map-append, take_at, AllPass-from_list_all, list_all-from_AllPass, sum_by-append, sum_by-cons, IsDistinct-cons, IsDistinct-head, IsDistinct-tail, bytes_eq-Decides, Boolean, Event as EventKind, SigId, SIGNALS, Signal, Span, IsSignal, form_fits, kind_at, kind_fits, operands_of, target_fits, target_of, AreWellMade, DefinesEach, HasParts, IsValid, defines, form_within, inputs_of, is_below, is_signal, is_target, operand_within, target_within, Equation, Form, Default, Delay, Fun, Sync, When, WhenConst, Operand, Const, Sig, Kernel, Truth, GetsPaces, IsTaken, marked_from, marks_from, others_together, pace_name, paced_kernel, paces_from, place_of, together_from, moved, renumbered, renumbered_equation, renumbered_form, renumbered_operand, contains_cons, contains_head, contains_later, contains_none, all_both}
-use Rattle.sig_kernel.specs.declared.equation.Form.TheVariants.{Event}
+use Rattle.sig_pace.proofs.Common.{◌≡◌, ◌<◌, ◌≤◌, ◌+◌, ◌-◌, ◌++◌, ◌&&◌, ◌||◌, ◌==◌, ◌∙◌, ◌^◌, inl, inr, ℕ, zero, suc, Bool, true, false, cond, List, [], ◌∷◌, length, map, take, drop, slice_get, refl, sym, ap, subst, arith, Contains, Some, pos, bytes_eq, count_by, sum_by, IsDistinct, list_all, list_any, codes, decimal, and_from, and_parts, cases_eq, cases_lt, eq-eqb, false_from_ne_true, lt-ltb, ltb-true, ne_eqb, decimal_injective, append_assoc, append_cancel_left, length-append, length-map, length-take-le, map-append, take_at, AllPass-from_list_all, list_all-from_AllPass, sum_by-append, sum_by-cons, IsDistinct-cons, IsDistinct-head, IsDistinct-tail, bytes_eq-Decides, Boolean, Event as EventKind, SigId, SIGNALS, Signal, Span, IsSignal, form_fits, kind_at, kind_fits, operands_of, target_fits, target_of, AreWellMade, DefinesEach, HasParts, IsValid, defines, form_within, inputs_of, is_below, is_signal, is_target, operand_within, target_within, Equation, Form, Fun, Sync, WhenConst, Operand, Const, Sig, Kernel, Truth, GetsPaces, IsTaken, marked_from, marks_from, others_together, pace_name, paced_kernel, paces_from, place_of, together_from, moved, renumbered, renumbered_equation, renumbered_form, renumbered_operand, contains_cons, contains_head, contains_later, contains_none, all_both, option_map, Option, None}
 use Rattle.sig_pace.proofs.Listed.{all_members, three_pass}
 use Rattle.sig_pace.proofs.Places.{kind_of_mark, kind_of_pace, paced_count, paces_count, stand}
 use Rattle.sig_pace.proofs.Rooms.{IsPlace, is_last, is_new, is_old, moved_apart, moved_before, moved_below, moved_outside, next_offset, no_offset, place_cases, same_at}
@@ -57,12 +56,11 @@ record IsInputName (count : ℕ) (signals : List Signal) (name : List ℕ) : Typ
   named : name ≡ found.name
 
 input_named : (n : ℕ) (signals : List Signal) (name : List ℕ) → Contains (names_of (take n signals)) name → IsInputName n signals name
-input_named zero signals name there = absurd (contains_none name there)
-input_named (suc n) [] name there = absurd (contains_none name there)
 input_named (suc n) (s ∷ signals) name there = elim (contains_cons s.name name (names_of (take n signals)) there) [
   | inl same ↦ record { signal = 0; within = omega arith; found = s; is = refl; named = same }
   | inr later ↦ (let rest = input_named n signals name later in record { signal = suc rest.signal; within = omega (arith, rest.within); found = rest.found; is = rest.is; named = rest.named })
 ]
+input_named _ _ name there = absurd (contains_none name there)
 
 -- ---- what the equations of paces ask
 
@@ -188,14 +186,14 @@ module _ (kernel : Kernel) (signal : ℕ) where
 
 -- ---- the old equations
 
-target_moved : (place : ℕ → ℕ) (count wide : ℕ) → ((x : ℕ) → x < count → place x < wide) → (form : Form) → target_within count (target_of form) ≡ true → target_within wide (target_of (renumbered_form place form)) ≡ true
-target_moved place count wide up (Fun y op operands) within = lt-ltb (place y.0) wide (up y.0 (ltb-true y.0 count within))
-target_moved place count wide up (Delay y x c) within = lt-ltb (place y.0) wide (up y.0 (ltb-true y.0 count within))
-target_moved place count wide up (When y x b) within = lt-ltb (place y.0) wide (up y.0 (ltb-true y.0 count within))
-target_moved place count wide up (WhenConst y c b) within = lt-ltb (place y.0) wide (up y.0 (ltb-true y.0 count within))
-target_moved place count wide up (Default y u v) within = lt-ltb (place y.0) wide (up y.0 (ltb-true y.0 count within))
-target_moved place count wide up (Sync x y) within = refl
-target_moved place count wide up (Event y x) within = lt-ltb (place y.0) wide (up y.0 (ltb-true y.0 count within))
+target_renumbered : (place : ℕ → ℕ) (form : Form) → target_of (renumbered_form place form) ≡ option_map (renumbered place) (target_of form)
+target_renumbered place (Fun y op operands) = refl
+target_renumbered place _ = refl
+
+target_moved : (place : ℕ → ℕ) (count wide : ℕ) → ((x : ℕ) → x < count → place x < wide) → (target : Option SigId) → target_within count target ≡ true
+    → target_within wide (option_map (renumbered place) target) ≡ true
+target_moved place count wide up None within = refl
+target_moved place count wide up (Some y) within = lt-ltb (place y.0) wide (up y.0 (ltb-true y.0 count within))
 
 operands_within : (place : ℕ → ℕ) (count wide : ℕ) → ((x : ℕ) → x < count → place x < wide) → (operands : List Operand) → list_all (operand_within count) operands ≡ true
     → list_all (operand_within wide) (map (renumbered_operand place) operands) ≡ true
@@ -212,13 +210,12 @@ moved_within : (place : ℕ → ℕ) (count wide : ℕ) → ((x : ℕ) → x < c
 moved_within place count wide up form within =
     let parts = and_parts (target_within count (target_of form)) (list_all (operand_within count) (operands_of form)) within in
     and_from (target_within wide (target_of (renumbered_form place form))) (list_all (operand_within wide) (operands_of (renumbered_form place form)))
-    (target_moved place count wide up form parts.0)
+    (ap (target_within wide) (target_renumbered place form) ∙ target_moved place count wide up (target_of form) parts.0)
     (ap (list_all (operand_within wide)) (operands_moved place form) ∙ operands_within place count wide up (operands_of form) parts.1)
 
 signals_moved : (place : ℕ → ℕ) (operands : List Operand) → list_any is_signal operands ≡ list_any is_signal (map (renumbered_operand place) operands)
-signals_moved place [] = refl
-signals_moved place (Sig x ∷ operands) = refl
 signals_moved place (Const c ∷ operands) = λ j. false || signals_moved place operands j
+signals_moved place _ = refl
 
 same_test : (place : ℕ → ℕ) → ((x y : ℕ) → place x ≡ place y → x ≡ y) → (x y : ℕ) → (place x == place y) ≡ (x == y)
 same_test place apart x y = elim (cases_eq x y) [
@@ -227,24 +224,15 @@ same_test place apart x y = elim (cases_eq x y) [
 ]
 
 -- whether a form defines the signal at a place
-target_alike : (place : ℕ → ℕ) → ((x y : ℕ) → place x ≡ place y → x ≡ y) → (signal : ℕ) (form : Form) → is_target (place signal) (target_of (renumbered_form place form)) ≡ is_target signal (target_of form)
-target_alike place apart signal (Fun y op operands) = same_test place apart y.0 signal
-target_alike place apart signal (Delay y x c) = same_test place apart y.0 signal
-target_alike place apart signal (When y x b) = same_test place apart y.0 signal
-target_alike place apart signal (WhenConst y c b) = same_test place apart y.0 signal
-target_alike place apart signal (Default y u v) = same_test place apart y.0 signal
-target_alike place apart signal (Sync x y) = refl
-target_alike place apart signal (Event y x) = same_test place apart y.0 signal
+target_alike : (place : ℕ → ℕ) → ((x y : ℕ) → place x ≡ place y → x ≡ y) → (signal : ℕ) (target : Option SigId) → is_target (place signal) (option_map (renumbered place) target) ≡ is_target signal target
+target_alike place apart signal None = refl
+target_alike place apart signal (Some y) = same_test place apart y.0 signal
 
 -- no form defines a signal that is no place
-target_none : (place : ℕ → ℕ) (count signal : ℕ) → ((x : ℕ) → x < count → place x ≡ signal → ⊥) → (form : Form) → target_within count (target_of form) ≡ true → is_target signal (target_of (renumbered_form place form)) ≡ false
-target_none place count signal none (Fun y op operands) within = ne_eqb (place y.0) signal (none y.0 (ltb-true y.0 count within))
-target_none place count signal none (Delay y x c) within = ne_eqb (place y.0) signal (none y.0 (ltb-true y.0 count within))
-target_none place count signal none (When y x b) within = ne_eqb (place y.0) signal (none y.0 (ltb-true y.0 count within))
-target_none place count signal none (WhenConst y c b) within = ne_eqb (place y.0) signal (none y.0 (ltb-true y.0 count within))
-target_none place count signal none (Default y u v) within = ne_eqb (place y.0) signal (none y.0 (ltb-true y.0 count within))
-target_none place count signal none (Sync x y) within = refl
-target_none place count signal none (Event y x) within = ne_eqb (place y.0) signal (none y.0 (ltb-true y.0 count within))
+target_none : (place : ℕ → ℕ) (count signal : ℕ) → ((x : ℕ) → x < count → place x ≡ signal → ⊥) → (target : Option SigId) → target_within count target ≡ true
+    → is_target signal (option_map (renumbered place) target) ≡ false
+target_none place count signal none None within = refl
+target_none place count signal none (Some y) within = ne_eqb (place y.0) signal (none y.0 (ltb-true y.0 count within))
 
 module _ (place : ℕ → ℕ) (count : ℕ) where
   abbrev within_all : List Equation → Bool
@@ -277,7 +265,7 @@ module _ (place : ℕ → ℕ) (count : ℕ) where
       → count_by (defines (place signal)) (map (renumbered_equation place) equations) ≡ count_by (defines signal) equations
   often_alike kernel apart signal [] = refl
   often_alike kernel apart signal (equation ∷ equations) =
-      often_more kernel (place signal) (renumbered_equation place equation) (map (renumbered_equation place) equations) (defines signal equation) (target_alike place apart signal equation.form)
+      often_more kernel (place signal) (renumbered_equation place equation) (map (renumbered_equation place) equations) (defines signal equation) (ap (is_target (place signal)) (target_renumbered place equation.form) ∙ target_alike place apart signal (target_of equation.form))
       ∙ ap (λ n. cond (defines signal equation) 1 0 + n) (often_alike kernel apart signal equations) ∙ sym (often_more kernel signal equation equations (defines signal equation) refl)
 
   often_none : Kernel → (signal : ℕ) → ((x : ℕ) → x < count → place x ≡ signal → ⊥) → (equations : List Equation) → within_all equations ≡ true
@@ -286,7 +274,7 @@ module _ (place : ℕ → ℕ) (count : ℕ) where
   often_none kernel signal none (equation ∷ equations) within =
       let parts = and_parts (form_within count equation.form) (within_all equations) within in
       let target = and_parts (target_within count (target_of equation.form)) (list_all (operand_within count) (operands_of equation.form)) parts.0 in
-      let first = often_more kernel signal (renumbered_equation place equation) (map (renumbered_equation place) equations) false (target_none place count signal none equation.form target.0) in
+      let first = often_more kernel signal (renumbered_equation place equation) (map (renumbered_equation place) equations) false (ap (is_target signal) (target_renumbered place equation.form) ∙ target_none place count signal none (target_of equation.form) target.0) in
       let rest = often_none kernel signal none equations parts.1 in
       omega (arith, first, rest)
 

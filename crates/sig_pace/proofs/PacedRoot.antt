@@ -1,23 +1,13 @@
 -- A paced kernel has a root: its first pace is present wherever something is.
-use Rattle.sig_pace.proofs.Common.{◌≡◌, ◌<◌, ◌≤◌, ◌+◌, ◌++◌, ◌&&◌, ◌∙◌, inl, inr, ℕ, zero, suc, Bool, true, false, List, [], ◌∷◌, length, map, get_or, slice_get, refl, sym, ap, subst, arith, Contains, None, Some, is_some, pos, list_all, and_parts, cases_lt, false≢true, true_from_ne_false, list_all-append, AllPass-from_list_all, list_all-from_AllPass, HasRoot, IsSignal, IsReaction, Reaction, Speaks, Status, constant_truth, is_present, is_silent, is_status_of, meets, same_status, same_truth, status_at, absent_in_silence, statuses_are_same, truths_are_same, Signal, kind_at, IsValid, form_within, Equation, Kernel, GetsPaces, NeedsPaces, marked_from, others_together, paced_kernel, together_from, moved, renumbered_equation, restricted, slice_get-get_or, slice_get_within}
+use Rattle.sig_pace.proofs.Common.{◌≡◌, ◌<◌, ◌≤◌, ◌+◌, ◌++◌, ◌&&◌, ◌∙◌, inl, inr, ℕ, zero, suc, Bool, true, false, List, [], ◌∷◌, length, map, get_or, slice_get, refl, sym, ap, subst, arith, Contains, None, Some, is_some, pos, list_all, and_parts, cases_lt, false≢true, true_from_ne_false, list_all-append, AllPass-from_list_all, list_all-from_AllPass, HasRoot, IsSignal, IsReaction, Reaction, Speaks, Status, constant_truth, is_present, is_silent, is_status_of, meets, same_status, same_truth, status_at, absent_in_silence, statuses_are_same, truths_are_same, Signal, kind_at, IsValid, form_within, Equation, Kernel, GetsPaces, NeedsPaces, marked_from, others_together, paced_kernel, together_from, moved, renumbered_equation, restricted, slice_get-get_or, slice_get_within, someone, statuses_fit, all_statuses}
 use Rattle.sig_clock.specs.Reactions.{where_true}
 use Rattle.sig_pace.proofs.Agreement.{Agrees, how_many_left, what_is_left}
 use Rattle.sig_pace.proofs.ClocksAbove.{maximal_above}
 use Rattle.sig_pace.proofs.Places.{paced_count, stand}
 use Rattle.sig_pace.proofs.Rooms.{IsPlace, is_last, is_new, is_old, next_offset, no_offset, place_cases}
-use Rattle.sig_pace.proofs.RenumberedSignals.{meets_alike, status_fits, statuses_count, statuses_from_places}
+use Rattle.sig_pace.proofs.RenumberedSignals.{meets_alike, status_fits}
 
 -- ---- what is present
-
-some_present : (reaction : Reaction) → is_silent reaction ≡ false → (signal : ℕ) × (is_present reaction signal ≡ true)
-some_present [] speaks = absurd (false≢true (sym speaks))
-some_present (None ∷ reaction) speaks = let later = some_present reaction speaks in (suc later.0, later.1)
-some_present (Some b ∷ reaction) speaks = (0, refl)
-
-present_within : (reaction : Reaction) (signal : ℕ) → is_present reaction signal ≡ true → signal < length reaction
-present_within [] signal is = absurd (false≢true is)
-present_within (status ∷ reaction) zero is = omega arith
-present_within (status ∷ reaction) (suc signal) is = omega (arith, present_within reaction signal is)
 
 speaks_with : (reaction : Reaction) (signal : ℕ) → is_present reaction signal ≡ true → is_silent reaction ≡ false
 speaks_with reaction signal there = at (is_silent reaction) refl where
@@ -123,7 +113,7 @@ module _ (kernel : Kernel) (least : List ℕ) (valid : IsValid kernel) where
 
   pub old_reaction : (wide : Reaction) → IsReaction paced wide → IsReaction kernel (without wide)
   old_reaction wide is = record {
-    kinds = statuses_from_places kernel.signals (without wide) (how_many_left count place wide) (λ k signal found.
+    kinds = statuses_fit kernel.signals (without wide) (how_many_left count place wide) (λ k signal found.
         let lt = slice_get_within kernel.signals k signal found in
         subst (λ status. is_status_of signal.kind status ≡ true) (sym (left_out wide k lt))
         (status_fits paced.signals wide is.kinds (place k) signal (sym (stand kernel least inputs_within k lt) ∙ found)));
@@ -141,9 +131,9 @@ module _ (kernel : Kernel) (least : List ℕ) (valid : IsValid kernel) where
       | inr none ↦ absurd (
           let reaction : Reaction = needs.alive.0 in
           let speaks : Speaks kernel reaction = needs.alive.1 in
-          let present = some_present reaction speaks.some in
-          let within : IsSignal kernel present.0 = omega (arith, statuses_count kernel.signals reaction speaks.is.kinds, present_within reaction present.0 present.1) in
-          maximal_above kernel present.0 within (reaction, speaks, present.1) (λ found.
+          let present = someone reaction speaks.some in
+          let within : IsSignal kernel present.0 = omega (arith, all_statuses kernel.signals reaction speaks.is.kinds, present.1) in
+          maximal_above kernel present.0 within (reaction, speaks, present.2) (λ found.
           let there = (needs.clocks.all found.0).1 found.1 in omega (arith, there.1, none)))
     ]
 
@@ -170,12 +160,12 @@ module _ (kernel : Kernel) (least : List ℕ) (valid : IsValid kernel) where
           false≢true (sym off ∙ sym (ap is_some (left_out wide m found.1.maximal.is)) ∙ up))
 
       nothing : ⊥
-      nothing = by found.0 found.1 (place_cases kernel.inputs count (length least) (length least) found.0 inputs_within within) where
-        found : (signal : ℕ) × (is_present wide signal ≡ true)
-        found = some_present wide speaks.some
+      nothing = by found.0 found.2 (place_cases kernel.inputs count (length least) (length least) found.0 inputs_within within) where
+        found : (signal : ℕ) × (signal < length wide) × (is_present wide signal ≡ true)
+        found = someone wide speaks.some
 
         within : found.0 < count + (length least + length least)
-        within = omega (arith, present_within wide found.0 found.1, statuses_count paced.signals wide speaks.is.kinds, paced_count kernel least inputs_within)
+        within = omega (arith, found.1, all_statuses paced.signals wide speaks.is.kinds, paced_count kernel least inputs_within)
 
         by : (k : ℕ) → is_present wide k ≡ true → IsPlace kernel.inputs count (length least) (length least) k → ⊥
         by k there (is_old x lt is) = none_old x lt (ap (is_present wide) is ∙ there)

@@ -1,5 +1,5 @@
 -- Signals that stand elsewhere: equations keep to the same rows, and abstract reactions meet them alike.
-use Rattle.sig_pace.proofs.Common.{◌≡◌, ◌<◌, ◌&&◌, ◌||◌, ◌∙◌, ℕ, zero, suc, pos, Bool, true, false, cond, int_eq, List, [], ◌∷◌, length, map, refl, sym, ap, subst, arith, Option, None, Some, is_some, slice_get, list_all, list_any, and_from, and_parts, false≢true, ltb-true, Kind, SigId, Signal, Reaction, are_statuses, compares, constant_truth, function_truth, has_truth, is_integer, is_integer_kind, is_present, is_status_of, is_with, meets, operand_truth, or_else, same_status, same_truth, status_at, truth_function, truth_of_status, where_present, Row, form_fits, is_kind, keeps_to_one, kind_at, kind_fits, kind_of, operand_is, operands_are, operands_of, rows_of, target_fits, form_within, is_below, operand_within, Form, Default, Delay, Fun, Sync, When, WhenConst, FunOp, Eq, Ne, Operand, Const, Sig, Sort, renumbered, renumbered_form, renumbered_operand}
+use Rattle.sig_pace.proofs.Common.{◌≡◌, ◌<◌, ◌&&◌, ◌||◌, ◌∙◌, ℕ, zero, suc, pos, Bool, true, false, cond, int_eq, List, [], ◌∷◌, map, refl, sym, ap, subst, Option, None, Some, is_some, slice_get, list_all, list_any, and_parts, false≢true, ltb-true, Kind, SigId, Signal, Reaction, are_statuses, compares, constant_truth, function_truth, has_truth, is_integer, is_integer_kind, is_present, is_status_of, is_with, meets, operand_truth, or_else, same_status, same_truth, status_at, truth_function, truth_of_status, where_present, Row, form_fits, is_kind, keeps_to_one, kind_at, kind_fits, kind_of, operand_is, operands_are, operands_of, rows_of, target_fits, form_within, is_below, operand_within, Form, Default, Delay, Fun, Sync, When, WhenConst, FunOp, Eq, Ne, Operand, Const, Sig, Sort, renumbered, renumbered_form, renumbered_operand}
 use Rattle.sig_clock.specs.Reactions.{where_true}
 use Rattle.sig_kernel.specs.declared.equation.Form.TheVariants.{Event}
 use Rattle.sig_pace.proofs.Agreement.{Agrees}
@@ -12,21 +12,11 @@ StandAt place count signals wide = (x : ℕ) → x < count → slice_get signals
 
 pub operands_moved : (place : ℕ → ℕ) (form : Form) → operands_of (renumbered_form place form) ≡ map (renumbered_operand place) (operands_of form)
 operands_moved place (Fun y op operands) = refl
-operands_moved place (Delay y x c) = refl
-operands_moved place (When y x b) = refl
-operands_moved place (WhenConst y c b) = refl
-operands_moved place (Default y u v) = refl
-operands_moved place (Sync x y) = refl
-operands_moved place (Event y x) = refl
+operands_moved place _ = refl
 
 rows_moved : (place : ℕ → ℕ) (form : Form) → rows_of (renumbered_form place form) ≡ rows_of form
 rows_moved place (Fun y op operands) = refl
-rows_moved place (Delay y x c) = refl
-rows_moved place (When y x b) = refl
-rows_moved place (WhenConst y c b) = refl
-rows_moved place (Default y u v) = refl
-rows_moved place (Sync x y) = refl
-rows_moved place (Event y x) = refl
+rows_moved place _ = refl
 
 module _ (place : ℕ → ℕ) (count : ℕ) (signals wide : List Signal) (stand : StandAt place count signals wide) where
   kind_alike : (x : SigId) → is_below count x ≡ true → kind_at signals x ≡ kind_at wide (renumbered place x)
@@ -143,18 +133,3 @@ status_fits (s ∷ signals) (status ∷ reaction) are zero signal is =
     let same : s ≡ signal = cc in
     subst (λ (x : Signal). is_status_of x.kind status ≡ true) same (and_parts (is_status_of s.kind status) (are_statuses signals reaction) are).0
 status_fits (s ∷ signals) (status ∷ reaction) are (suc k) signal is = status_fits signals reaction (and_parts (is_status_of s.kind status) (are_statuses signals reaction) are).1 k signal is
-
-pub statuses_from_places : (signals : List Signal) (reaction : Reaction) → length reaction ≡ length signals
-    → ((k : ℕ) (signal : Signal) → slice_get signals k ≡ Some signal → is_status_of signal.kind (status_at reaction k) ≡ true) → are_statuses signals reaction ≡ true
-statuses_from_places [] [] count each = refl
-statuses_from_places [] (status ∷ reaction) count each = absurd (omega (arith, count))
-statuses_from_places (s ∷ signals) [] count each = absurd (omega (arith, count))
-statuses_from_places (s ∷ signals) (status ∷ reaction) count each =
-    and_from (is_status_of s.kind status) (are_statuses signals reaction) (each 0 s refl) (statuses_from_places signals reaction (omega (arith, count)) (λ k signal is. each (suc k) signal is))
-
-pub statuses_count : (signals : List Signal) (reaction : Reaction) → are_statuses signals reaction ≡ true → length reaction ≡ length signals
-statuses_count [] [] are = refl
-statuses_count [] (status ∷ reaction) are = absurd (false≢true are)
-statuses_count (s ∷ signals) [] are = absurd (false≢true are)
-statuses_count (s ∷ signals) (status ∷ reaction) are =
-    let rest = statuses_count signals reaction (and_parts (is_status_of s.kind status) (are_statuses signals reaction) are).1 in omega (arith, rest)

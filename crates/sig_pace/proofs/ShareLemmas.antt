@@ -1,5 +1,5 @@
 -- Finding the maximal clocks keeps to its share, and so does pacing.
-use Rattle.sig_pace.proofs.Common.{◌≡◌, ◌<◌, ◌≤◌, ◌+◌, ◌*◌, ◌^◌, ◌⊎◌, ℕ, List, length, sym, subst, arith, Option, None, Some, Result, Ok, Err, IfErr, IfSome, IsErrAnd, mul-le-mul_right, StoreView, allowance, IsRefused, Share, DdAnswer, Budget as StoreBudget, OutOfMemory as NoStore, Kernel, IsFromStore, IsUnknownCount, IsRefusedFor, KeepsToShare, SystemView, RelAnswer, SystemBudget, NoMemory, calls_of, rest_of_share, share_of, calls_fit, halves, variables_count, IsFromSystem, variables_of, AreLeaders, HasNoPaceRoom, KeepsToPaceShare, KeepsToSystemShare, PaceAnswer}
+use Rattle.sig_pace.proofs.Common.{◌≡◌, ◌<◌, ◌≤◌, ◌+◌, ◌*◌, ◌^◌, ◌⊎◌, ℕ, List, length, sym, subst, arith, Option, Some, Result, Ok, Err, IfErr, IfSome, IsErrAnd, mul-le-mul_right, StoreView, allowance, IsRefused, Share, DdAnswer, Budget as StoreBudget, OutOfMemory as NoStore, Kernel, IsFromStore, IsUnknownCount, IsRefusedFor, KeepsToShare, SystemView, RelAnswer, SystemBudget, NoMemory, calls_of, rest_of_share, share_of, calls_fit, halves, variables_count, IsFromSystem, variables_of, AreLeaders, HasNoPaceRoom, KeepsToPaceShare, KeepsToSystemShare, PaceAnswer}
 
 -- ---- the calls
 
@@ -25,9 +25,8 @@ calls_within n u c q vs count few le some =
     through ((1 + c) * allowance vs) ((1 + calls_of c 0 n) * allowance vs) (2 ^ u * 30 * (q + u * u * u)) low wide
 
 refused_then : (old mid new : StoreView) (a b room : ℕ) → length mid.nodes ≤ length old.nodes + a → b ≤ room → (why : Option DdAnswer) → IfSome why (IsRefused mid new b) → IfSome why (IsRefused old new (a + room))
-refused_then old mid new a b room first le None h = tt
 refused_then old mid new a b room first le (Some (StoreBudget n)) h = (h.0, let lt = h.1 in omega (arith, lt, first, le))
-refused_then old mid new a b room first le (Some NoStore) h = tt
+refused_then old mid new a b room first le _ h = tt
 
 -- the making of the system, and then the calls
 module _ (kernel : Kernel) (leaders : List ℕ) (are : AreLeaders kernel leaders) (system : SystemView) (few : (u : ℕ) → IsUnknownCount kernel u → system.variables ≤ u) (old mid new : StoreView)

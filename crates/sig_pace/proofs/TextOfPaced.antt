@@ -11,14 +11,13 @@ no_lines [] = refl
 no_lines (signal ∷ signals) = refl
 
 lines_alike : (signals : List Signal) (a b : List Seen) → ((i : ℕ) → i < length signals → get_or a i None ≡ get_or b i None) → seen_lines signals a ≡ seen_lines signals b
-lines_alike [] a b same = refl
-lines_alike (signal ∷ signals) [] [] same = refl
 lines_alike (signal ∷ signals) [] (s ∷ b) same =
     sym (no_lines signals) ∙ lines_alike signals [] b (λ i lt. same (suc i) (omega (arith, lt))) ∙ ap (λ seen. seen_line signal seen ++ seen_lines signals b) (same 0 (omega arith))
 lines_alike (signal ∷ signals) (s ∷ a) [] same =
     ap (λ seen. seen_line signal seen ++ seen_lines signals a) (same 0 (omega arith)) ∙ lines_alike signals a [] (λ i lt. same (suc i) (omega (arith, lt))) ∙ no_lines signals
 lines_alike (signal ∷ signals) (s ∷ a) (t ∷ b) same =
     λ j. seen_line signal (same 0 (omega arith) j) ++ lines_alike signals a b (λ i lt. same (suc i) (omega (arith, lt))) j
+lines_alike _ _ _ same = refl
 
 module _ (kernel : Kernel) (least : List ℕ) (valid : IsValid kernel) where
   abbrev more : ℕ

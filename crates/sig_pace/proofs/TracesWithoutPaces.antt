@@ -23,9 +23,8 @@ pace_kind range false true = inr refl
 pace_kind range false false = inl refl
 
 mark_kind : (range : Range) (silent present : Bool) → IsOfKind range Event (where_true (pace_by silent present) (Some (pos 1)))
-mark_kind range true present = tt
 mark_kind range false true = refl
-mark_kind range false false = tt
+mark_kind range _ _ = tt
 
 pace_speaks : (silent present : Bool) → is_some (pace_by silent present) ≡ not silent
 pace_speaks true present = refl

@@ -32,10 +32,8 @@ pub record KeepsToSystemShare {T : Type 0} (kernel : Kernel) (old new : StoreVie
 
 -- a refusal for the number of nodes comes where the store is full and, before the call, would have had no room for the share
 abbrev pub HasNoPaceRoom : StoreView → StoreView → ℕ → PaceAnswer → Type 0
-HasNoPaceRoom old new room (NameTaken signal) = Unit {0}
-HasNoPaceRoom old new room (TooManySignals limit) = Unit {0}
 HasNoPaceRoom old new room (Budget n) = IsFull new n × (n < length old.nodes + room)
-HasNoPaceRoom old new room OutOfMemory = Unit {0}
+HasNoPaceRoom old new room _ = Unit {0}
 
 -- pacing keeps to the share of the kernel handed in: it adds no more nodes, and lacks none where there was room for it
 pub record KeepsToPaceShare {T : Type 0} (kernel : Kernel) (old new : StoreView) (result : Result T PaceAnswer) : Type 0 where

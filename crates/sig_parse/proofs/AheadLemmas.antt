@@ -37,11 +37,10 @@ module _ (limits : Limits) where
       (opens_of leaves front _ e opens (BeginsExpression mixed_level) (expression_begins limits mixed_level depth operand front (p, is)))
 
   pub clock_opens : (depth : ℕ) (xs : List Expression) (leaves : List Leaf) → IsClockEquation limits depth xs leaves → StartsWith (λ t. t ≡ opening) leaves → MayStandInside limits depth
-  clock_opens depth [] leaves is opens = absurd is
-  clock_opens depth (x ∷ []) leaves is opens = absurd is
   clock_opens depth (x ∷ y ∷ others) leaves ((front, back, e, (p, is), are), few) opens =
       enclosed_opens x (bare_opens x) p default_level depth front is
       (opens_of leaves front back e opens (BeginsExpression default_level) (expression_begins limits default_level depth x front (p, is)))
+  clock_opens depth _ leaves is opens = absurd is
 
   left_opens : (depth : ℕ) (names : List Name) (leaves : List Leaf) → IsLeft limits depth names leaves → StartsWith (λ t. t ≡ opening) leaves → MayStandInside limits depth
   left_opens depth names leaves (inl (n, one, e)) opens = absurd (not_opening (name n.text) n.at leaves [] (λ e. cc) e opens)

@@ -1,6 +1,6 @@
 -- Bodies from their parts.
 use mathlib.Core.Former.{Count}
-use Rattle.sig_parse.proofs.Common.{◌≡◌, ◌++◌, ◌≤◌, ◌<◌, ℕ, suc, List, [], ◌∷◌, codes, length, map, sum_by, refl, sym, ap, ◌∙◌, subst, append_assoc, arith, Vec, Global, Span, Name, Body, All, All', Row_of-Body, end_of-Body, more_of-Body, items-the_row-Body, items_hidden-the_row-Body-0, Expression, RightSide, Equations, Defines, equations_of, bodies_of, Leaf, leaf, mark, both_limits, operators, right_operators, Further, Separated, Listed, IsExpression, IsLeft, IsRight, IsClockEquation, IsBody, AreBodies, AreFurtherBodies, State, Reads, Covers, IsLeaf}
+use Rattle.sig_parse.proofs.Common.{◌≡◌, ◌++◌, ◌≤◌, ◌<◌, ℕ, suc, List, ◌∷◌, codes, length, map, sum_by, refl, sym, ap, ◌∙◌, subst, append_assoc, arith, Vec, Global, Span, Name, Body, All, All', Row_of-Body, end_of-Body, more_of-Body, items-the_row-Body, items_hidden-the_row-Body-0, Expression, RightSide, Equations, Defines, equations_of, bodies_of, Leaf, leaf, mark, both_limits, operators, right_operators, Further, Separated, Listed, IsExpression, IsLeft, IsRight, IsClockEquation, IsBody, AreBodies, AreFurtherBodies, State, Reads, Covers, IsLeaf}
 use Rattle.sig_parse.proofs.CoveredParts.{seen_as, between_marks}
 
 -- a left side, `:=` and a right side
@@ -24,9 +24,8 @@ definition names right depth at begun {s} {t} {u} {v} fresh r q p =
 pub clock_equation_of : (depth : ℕ) (operands : List Expression) (leaves : List Leaf) → 2 ≤ length operands
     → Separated (IsExpression both_limits depth) (mark (codes "^=")) operands leaves → sum_by operators operands ≤ 512
     → IsClockEquation both_limits depth operands leaves
-clock_equation_of depth [] leaves two h few = absurd (omega arith)
-clock_equation_of depth (e ∷ []) leaves two h few = absurd (omega arith)
 clock_equation_of depth (e ∷ f ∷ others) leaves two h few = (h, λ _. few)
+clock_equation_of depth _ leaves two h few = absurd (omega arith)
 
 pub clock_equation : (depth : ℕ) (operands : List Expression) {s t : State} → s.operators ≡ 0 → 2 ≤ length operands
     → Reads (Separated (IsExpression both_limits depth) (mark (codes "^=")) operands) (sum_by operators operands) s t

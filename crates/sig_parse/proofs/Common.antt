@@ -5,7 +5,7 @@ pub use Rattle.std.proofs.lemmas.List.Concat.{flat_map-append}
 pub use Rattle.std.proofs.lemmas.List.Sums.{sum_by-cons, sum_by_push}
 pub use Rattle.std.proofs.lemmas.Result.{IfOk-weaker}
 pub use Rattle.std.proofs.lemmas.Bool.{cases_lt}
-pub use Rattle.std.proofs.Math.Decide.{map_dec}
+pub use Rattle.std.proofs.Math.Decide.{map_dec, dec_le}
 pub use Rattle.sig_lists.proofs.Decided.{dec_both, dec_either, dec_number, dec_text}
 pub use Rattle.sig_lists.proofs.Fronts.{no_more}
 pub use Rattle.sig_base.specs.Lines.{refusal_at}
@@ -33,7 +33,7 @@ unfoldable pub use Rattle.sig_tree.specs.declared.process.Process.{roll-Process}
 pub use Rattle.sig_tree.specs.declared.process.RunOn.{RunOn}
 pub use Rattle.sig_tree.proofs.CombinedReadings.{append_to, between_at, between_once, cons_same, listed_once, part_at, starts_apart}
 pub use Rattle.sig_tree.proofs.Common.{AreArguments, AreBodies, AreConstants, AreFurtherBodies, AreGroups, AreLocals, AreParams, ArePragmas, AreSoMany, BeginsBody, BeginsConstant, BeginsExpression, BeginsGroup, BeginsLeft, BeginsName, BeginsPlacement, BeginsProcess, Between, Bodies, Boolean, Called, Computed, ContinuesBodies, ContinuesBody, ContinuesClockEquation, ContinuesDefinition, ContinuesDelay, ContinuesEach, ContinuesExpression, ContinuesGroups, ContinuesInit, ContinuesList, ContinuesLocals, ContinuesNothing, ContinuesOptional, ContinuesPlacements, Declared, Each, Enclosed, Equations, Event, Expression, Further, HasTree, Heading, Integer, IsAtLevel, IsAtom, IsBare, IsBody, IsClockEquation, IsConstant, IsDefinition, IsExpression, IsGroup, IsInit, IsInterface, IsItem, IsLeft, IsLocalGroup, IsModel, IsName, IsOptionalInit, IsOptionalOne, IsParam, IsPlacement, IsPlainItem, IsProgram, IsRight, IsStep, IsWhere, Kind, Leaf, Limits, Listed, MayHave, MayStandInside, Modelled, Named, Number, OneReading, Placement, ProcessModel, ProcessModels, RightSide, Separated, Span, StartsWith, Step, StopsBefore, Terminal, Together, Token, Truth, Unary, WithCell, WithDelay, WithOperand, append_cancel_left, append_cancel_right, binary_level, binary_terminal, both_limits, default_level, delay_level, kind_word, label, leaf, leaves_of, left_level, level_of, mark, mixed_level, more_bodies, more_models, name, name_leaf, no_body, no_limits, no_model, number, operand_level, primary_level, relation_level, right_level, stepped, stepped_all, truth_word, unary_level, unary_terminal, word}
-pub use Rattle.sig_tree.proofs.FirstLeaves.{body_begins, clock_equation_begins, constant_begins, expression_begins, left_begins, local_group_begins, model_begins, starts_longer}
+pub use Rattle.sig_tree.proofs.FirstLeaves.{body_begins, clock_equation_begins, constant_begins, expression_begins, left_begins, local_group_begins, model_begins, starts_longer, starts_front}
 pub use Rattle.sig_tree.proofs.ListsThatStop.{stops_smaller}
 pub use Rattle.sig_tree.proofs.Operators.{Infix as TreeInfix, OfCell, OfDelay, OfTwo, Tighter, continues_tighter, different, infix_found, infix_is, infix_level as tree_level, infix_of, infix_seen, infix_stands, infix_terminal as tree_terminal, is_terminal, no_infix, not_tighter, tighter_continues, two_levels}
 pub use Rattle.sig_tree.proofs.ReadBodies.{bar_apart, bodies_once, clock_equation_once, definition_starts, together_apart}

@@ -9,10 +9,6 @@ pub both_begin : (Begins Others : Terminal → Type 0) → ((t : Terminal) → B
 both_begin Begins Others apart [] begins others = begins
 both_begin Begins Others apart (l ∷ leaves) begins others = apart l.terminal begins others
 
--- the leaves begin as the first of them do
-pub starts_as : (Begins : Terminal → Type 0) (leaves front back : List Leaf) → leaves ≡ front ++ back → StartsWith Begins front → StartsWith Begins leaves
-starts_as Begins leaves front back e starts = subst (λ (ls : List Leaf). StartsWith Begins ls) (sym e) (starts_longer Begins front back starts)
-
 module _ {A : Type 0} (Is : A → List Leaf → Type 0) (ending : Terminal) where
   -- what stands up to a terminal has one reading
   pub up_to_once : (Continues : Terminal → Type 0) → OneReading Is Continues → (Continues ending → ⊥) → OneReading (UpTo ending Is) ContinuesNothing

@@ -12,9 +12,8 @@ item_with_init declares n init {s} {t} {u} signals r q =
 
 pub plain_item : (declares : Declares) (n : Name) {s t : State} → (declares ≡ Signals → ⊥)
     → Reads (IsName n) 0 s t → Reads (IsItemOf declares (record { name = n; init = None })) 0 s t
-plain_item Parameters n other r = viewed (IsPlainItem (record { name = n; init = None })) (λ front is. (refl, is)) r
-plain_item Inputs n other r = viewed (IsPlainItem (record { name = n; init = None })) (λ front is. (refl, is)) r
 plain_item Signals n other r = absurd (other refl)
+plain_item _ n other r = viewed (IsPlainItem (record { name = n; init = None })) (λ front is. (refl, is)) r
 
 -- a kind and items
 any_group : (IsOne : Item → List Leaf → Type 0) (kind : Kind) (items : List Item) (at : Span) {s t u : State}

@@ -1,13 +1,10 @@
 -- Which operator is next, before an operand or behind one, and whether what is next goes on with a step: each is decided.
-use Rattle.sig_parse.proofs.Common.{◌≡◌, ◌≤◌, ◌⊎◌, ℕ, suc, arith, inl, inr, refl, sym, ap, ◌∙◌, Option, None, Some, codes, UnOp, Not, Neg, When, Clock, BinOp, Default, Terminal, number, word, unary_terminal, unary_level, operand_level, right_level, delay_level, TreeInfix, tree_terminal, tree_level, infix_of, infix_seen, infix_stands, no_infix, infix_is, infix_found, Infix, infix_terminal, infix_level, infix_left, first_level, level_number, Level, IsTighter, IsInfix, IsOperatorOf, ContinuesStep, map_dec, dec_both, dec_either, dec_number, cases_lt}
+use Rattle.sig_parse.proofs.Common.{◌≡◌, ◌≤◌, ◌⊎◌, ℕ, suc, arith, inl, inr, refl, sym, ap, ◌∙◌, Option, None, Some, codes, UnOp, Not, Neg, When, Clock, BinOp, Default, Terminal, number, word, unary_terminal, unary_level, operand_level, right_level, delay_level, TreeInfix, tree_terminal, tree_level, infix_of, infix_seen, infix_stands, no_infix, infix_is, infix_found, Infix, infix_terminal, infix_level, infix_left, first_level, level_number, Level, IsTighter, IsInfix, IsOperatorOf, ContinuesStep, map_dec, dec_both, dec_either, dec_number, dec_le}
 use Rattle.sig_tree.specs.Continuing.{IsInfix as StandsBehind}
 use Rattle.sig_parse.specs.declared.operator.Level.TheVariants.{Default as DefaultLevel, Mixed, Clock as ClockLevel, Or, And, Not as NotLevel, Relation, Sum, Product, Minus, Delay, Primary}
-use Rattle.sig_parse.specs.declared.operator.Infix.TheVariants.{Binary, Cell, Delay as DelayOp}
+use Rattle.sig_parse.specs.declared.operator.Infix.TheVariants.{Binary}
 use Rattle.sig_parse.proofs.NextLeaf.{dec_terminal}
 use Rattle.sig_parse.proofs.OperatorLemmas.{in_tree, same_terminal, same_level, one_operator, from_level, level_from, one_level}
-
-dec_most : (a b : ℕ) → Dec (a ≤ b)
-dec_most a b = elim (cases_lt b a) [ inl less ↦ no (λ most. omega (arith, less, most)) | inr most ↦ yes most ]
 
 -- ---- operators before an operand
 
@@ -52,15 +49,11 @@ pub infix_at : (level : Level) (op : Infix) → infix_level op ≡ level_number 
 infix_at level op own = record { terminal_is = refl; level_is = own; left_is = left op (level_from (infix_level op)) (from_number op) ∙ ap first_level (one_level (level_from (infix_level op)) level (from_number op ∙ own)) } where
   from_number : (op : Infix) → level_number (level_from (infix_level op)) ≡ infix_level op
   from_number (Binary Default) = refl
-  from_number (Binary _) = refl
-  from_number Cell = refl
-  from_number DelayOp = refl
+  from_number _ = refl
 
   left_of : (op : Infix) → infix_left op ≡ first_level (level_from (infix_level op))
   left_of (Binary Default) = refl
-  left_of (Binary _) = refl
-  left_of Cell = refl
-  left_of DelayOp = refl
+  left_of _ = refl
 
   left : (op : Infix) (l : Level) → level_number l ≡ infix_level op → infix_left op ≡ first_level (level_from (infix_level op))
   left op l e = left_of op
@@ -83,10 +76,10 @@ dec_infix level t = at (infix_of t) refl where
 
   at : (found : Option TreeInfix) → infix_of t ≡ found → Dec (StandsBehind level t)
   at None none = no (no_infix t none level)
-  at (Some i) is = by i is (dec_most level (tree_level i))
+  at (Some i) is = by i is (dec_le level (tree_level i))
 
 pub dec_step : (level : ℕ) (t : Terminal) → Dec (ContinuesStep level t)
-dec_step level t = dec_either (dec_infix (suc level) t) (dec_both (dec_most level delay_level) (dec_either (dec_terminal t (number 1)) (dec_terminal t (word (codes "init")))))
+dec_step level t = dec_either (dec_infix (suc level) t) (dec_both (dec_le level delay_level) (dec_either (dec_terminal t (number 1)) (dec_terminal t (word (codes "init")))))
 
 -- ---- levels
 

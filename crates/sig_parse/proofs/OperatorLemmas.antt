@@ -12,13 +12,11 @@ in_tree DelayOp = OfDelay
 
 pub same_terminal : (op : Infix) → infix_terminal op ≡ tree_terminal (in_tree op)
 same_terminal (Binary op) = refl
-same_terminal Cell = refl
-same_terminal DelayOp = refl
+same_terminal _ = refl
 
 pub same_level : (op : Infix) → infix_level op ≡ tree_level (in_tree op)
 same_level (Binary op) = refl
-same_level Cell = refl
-same_level DelayOp = refl
+same_level _ = refl
 
 abbrev from_tree : TreeInfix → Infix
 from_tree (OfTwo op) = Binary op
@@ -27,8 +25,7 @@ from_tree OfDelay = DelayOp
 
 there_and_back : (op : Infix) → from_tree (in_tree op) ≡ op
 there_and_back (Binary op) = refl
-there_and_back Cell = refl
-there_and_back DelayOp = refl
+there_and_back _ = refl
 
 -- operators of one terminal are the same
 pub one_operator : (op other : Infix) → infix_terminal op ≡ infix_terminal other → op ≡ other

@@ -4,9 +4,8 @@ use Rattle.sig_parse.proofs.Common.{◌≡◌, ◌++◌, List, [], ◌∷◌, re
 -- both lists are empty, or both begin with the same leaf
 abbrev pub SameFirst : List Leaf → List Leaf → Type 0
 SameFirst [] [] = Unit {0}
-SameFirst [] (m ∷ other) = ⊥
-SameFirst (l ∷ leaves) [] = ⊥
 SameFirst (l ∷ leaves) (m ∷ other) = l ≡ m
+SameFirst _ _ = ⊥
 
 pub agrees_first : (passed after leaves : List Leaf) → Agrees passed after leaves → SameFirst (passed ++ after) leaves
 agrees_first [] [] leaves e = subst (λ (l : List Leaf). SameFirst [] l) (sym e) tt
@@ -20,9 +19,8 @@ agrees_split front passed (l ∷ after) leaves (more, e) = (passed ++ l ∷ more
 
 pub first_stops : (Continues : Terminal → Type 0) (leaves other : List Leaf) → SameFirst leaves other → StopsBefore Continues leaves → StopsBefore Continues other
 first_stops Continues [] [] same stops = tt
-first_stops Continues [] (m ∷ other) same stops = absurd same
-first_stops Continues (l ∷ leaves) [] same stops = absurd same
 first_stops Continues (l ∷ leaves) (m ∷ other) same stops = λ continues. stops (subst (λ (n : Leaf). Continues n.terminal) (sym same) continues)
+first_stops Continues _ _ same stops = absurd same
 
 -- the part stands between these leaves
 module _ (Is Whole : Limits → List Leaf → Type 0) (front behind : List Leaf) (extend : (limits : Limits) (leaves : List Leaf) → Is limits leaves → Whole limits (front ++ (leaves ++ behind))) where

@@ -17,9 +17,8 @@ same_behind (l ∷ front) after rest same = refl
 
 pub agrees_behind : (front after rest : List Leaf) → SameFirst after rest → Agrees front after (front ++ rest)
 agrees_behind front [] [] same = append-nil front
-agrees_behind front [] (m ∷ rest) same = absurd same
-agrees_behind front (l ∷ after) [] same = absurd same
 agrees_behind front (l ∷ after) (m ∷ rest) same = (rest, ap (λ n. front ++ n ∷ rest) (sym same))
+agrees_behind front _ _ same = absurd same
 
 pub behind_agrees : (front after leaves : List Leaf) → Agrees front after leaves → (rest : List Leaf) × (leaves ≡ front ++ rest) × SameFirst after rest
 behind_agrees front [] leaves e = ([], e ∙ sym (append-nil front), tt)
@@ -166,9 +165,8 @@ settles_as Is Whole Continues to from {here} k = settles_where Is Whole Continue
 -- the first leaf is in the set and is not
 pub starts_or_stops : (Begins : Terminal → Type 0) (leaves other : List Leaf) → SameFirst leaves other → StopsBefore Begins leaves → StartsWith Begins other → ⊥
 starts_or_stops Begins [] [] same stops starts = starts
-starts_or_stops Begins [] (m ∷ other) same stops starts = same
-starts_or_stops Begins (l ∷ leaves) [] same stops starts = same
 starts_or_stops Begins (l ∷ leaves) (m ∷ other) same stops starts = stops (subst (λ (n : Leaf). Begins n.terminal) (sym same) starts)
+starts_or_stops Begins _ _ same stops starts = same
 
 pub starts_same : (Begins : Terminal → Type 0) (leaves other : List Leaf) → SameFirst leaves other → StartsWith Begins leaves → StartsWith Begins other
 starts_same Begins [] other same starts = absurd starts

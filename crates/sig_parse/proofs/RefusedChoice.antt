@@ -187,10 +187,9 @@ module _ (depth : ℕ) where
       (enclosed_name no_limits (λ kept. cc) l.at k.at (name_of_leaf m text)) defines
 
   pub clock_ahead : (xs : List Expression) (front back : List Leaf) → IsClockEquation no_limits depth xs front → BeginsDefinition (front ++ back) → ⊥
-  clock_ahead [] front back is begins = is
-  clock_ahead (x ∷ []) front back is begins = is
   clock_ahead (x ∷ y ∷ others) front back ((first, rest, e, is_x, (at, second, further, f, is_y, are)), few) begins =
       expression_ahead x first at ((second ++ further) ++ back) (front ++ back) (append_to front first rest back e ∙ ap (λ ls. first ++ (ls ++ back)) f) is_x begins
+  clock_ahead _ front back is begins = is
 
   -- a body in brackets begins neither
   opening_no_definition : (leaves : List Leaf) → StartsWith (λ t. t ≡ mark (codes "(|")) leaves → BeginsDefinition leaves → ⊥
@@ -200,12 +199,11 @@ module _ (depth : ℕ) where
 
   same_begins : (here other : List Leaf) → SameFirst here other → StartsWith (λ t. t ≡ mark (codes "(|")) other → BeginsDefinition here → ⊥
   same_begins [] [] same opens begins = opens
-  same_begins [] (m ∷ other) same opens begins = same
-  same_begins (l ∷ here) [] same opens begins = same
   same_begins (l ∷ here) (m ∷ other) same opens begins = opening_no_definition (l ∷ here) (sym_starts same opens) begins
     where
       sym_starts : l ≡ m → m.terminal ≡ mark (codes "(|") → l.terminal ≡ mark (codes "(|")
       sym_starts same opens = ap (λ n. n.terminal) same ∙ opens
+  same_begins _ _ same opens begins = same
 
   together_starts : (limits : Limits) (whole back : List Leaf) (bodies : _) → IsBody limits (Together bodies) depth whole → StartsWith (λ t. t ≡ mark (codes "(|")) (whole ++ back)
   together_starts limits whole back bodies (may, (opened, closed, inside, e, are)) = subst (λ (ls : List Leaf). StartsWith (λ t. t ≡ mark (codes "(|")) (ls ++ back)) (sym e) refl

@@ -11,15 +11,13 @@ Always Is limits x leaves = Is x leaves
 
 -- a kind
 pub kind_same : (k j : Kind) → kind_word k ≡ kind_word j → k ≡ j
-kind_same Integer Integer e = refl
 kind_same Integer Boolean e = absurd (different (word (codes "integer")) (word (codes "boolean")) refl refl e)
 kind_same Integer Event e = absurd (different (word (codes "integer")) (word (codes "event")) refl refl e)
 kind_same Boolean Integer e = absurd (different (word (codes "boolean")) (word (codes "integer")) refl refl e)
-kind_same Boolean Boolean e = refl
 kind_same Boolean Event e = absurd (different (word (codes "boolean")) (word (codes "event")) refl refl e)
 kind_same Event Integer e = absurd (different (word (codes "event")) (word (codes "integer")) refl refl e)
 kind_same Event Boolean e = absurd (different (word (codes "event")) (word (codes "boolean")) refl refl e)
-kind_same Event Event e = refl
+kind_same _ _ e = refl
 
 kind_once : (declares : Declares) → OneReading (IsKindOf declares) ContinuesNothing
 kind_once declares x y front other_front back other_back e (at, may, f) (place, other_may, g) stops other_stops =
@@ -109,9 +107,8 @@ plain_settled Signals other n c = absurd (other refl)
 
 -- item { "," item }
 comma_apart : (declares : Declares) → ContinuesItem declares (mark (codes ",")) → ⊥
-comma_apart Parameters none = none
-comma_apart Inputs none = none
 comma_apart Signals e = let both : mark (codes ",") ≡ word (codes "init") = e in cc
+comma_apart _ none = none
 
 module _ (declares : Declares) where
   abbrev pub ItemRead : Item → State → State → Type 0
@@ -135,8 +132,7 @@ KindThen declares limits leaves = Then (Always (IsKindOf declares)) (InItems dec
 
 group_of : (declares : Declares) (limits : Limits) (leaves : List Leaf) → KindThen declares limits leaves → InGroup declares limits leaves
 group_of Parameters limits leaves (kind, front, back, e, (at, may, f), (items, are)) = (record { kind = kind; items = items }, (may refl, (at, back, e ∙ ap (λ ls. ls ++ back) f, are)))
-group_of Inputs limits leaves (kind, front, back, e, (at, may, f), (items, are)) = (record { kind = kind; items = items }, (at, back, e ∙ ap (λ ls. ls ++ back) f, are))
-group_of Signals limits leaves (kind, front, back, e, (at, may, f), (items, are)) = (record { kind = kind; items = items }, (at, back, e ∙ ap (λ ls. ls ++ back) f, are))
+group_of _ limits leaves (kind, front, back, e, (at, may, f), (items, are)) = (record { kind = kind; items = items }, (at, back, e ∙ ap (λ ls. ls ++ back) f, are))
 
 of_group : (declares : Declares) (limits : Limits) (leaves : List Leaf) → InGroup declares limits leaves → KindThen declares limits leaves
 of_group Parameters limits leaves (group, (no_event, (at, rest, e, are))) = (group.kind, leaf (kind_word group.kind) at ∷ [], rest, e, (at, (λ is. no_event), refl), (group.items, are))
@@ -144,9 +140,8 @@ of_group Inputs limits leaves (group, (at, rest, e, are)) = (group.kind, leaf (k
 of_group Signals limits leaves (group, (at, rest, e, are)) = (group.kind, leaf (kind_word group.kind) at ∷ [], rest, e, (at, (λ is. absurd (let both : Signals ≡ Parameters = is in cc)), refl), (group.items, are))
 
 some_items : (declares : Declares) → InItems declares no_limits (some_leaf ∷ [])
-some_items Parameters = (record { name = some_name; init = None } ∷ [], (some_leaf ∷ [], [], refl, (refl, refl), refl))
-some_items Inputs = (record { name = some_name; init = None } ∷ [], (some_leaf ∷ [], [], refl, (refl, refl), refl))
 some_items Signals = (record { name = some_name; init = None } ∷ [], (some_leaf ∷ [], [], refl, ([], refl, refl), refl))
+some_items _ = (record { name = some_name; init = None } ∷ [], (some_leaf ∷ [], [], refl, (refl, refl), refl))
 
 kind_leads : (declares : Declares) (kind : Kind) (at : Span) → (declares ≡ Parameters → kind ≢ Event) → {s t : State} → Covers (IsLeaf (kind_word kind) at) s t
     → Leads (KindThen declares) (ContinuesItems declares) (InItems declares) (ContinuesItems declares) s.leaves t.leaves

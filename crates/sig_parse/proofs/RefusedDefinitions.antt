@@ -63,9 +63,8 @@ module _ (depth : ℕ) where
     more (x ∷ y ∷ others) are fits = behind (x ∷ y ∷ others) are fits
 
   operands_of : (limits : Limits) (leaves : List Leaf) (xs : List Expression) → IsClockEquation limits depth xs leaves → Operands limits leaves
-  operands_of limits leaves [] is = absurd is
-  operands_of limits leaves (x ∷ []) is = absurd is
   operands_of limits leaves (x ∷ y ∷ others) (are, few) = (x ∷ y ∷ others, are, fewer limits (0 + counted operators (x ∷ y ∷ others)) (sum_by operators (x ∷ y ∷ others)) (omega (arith, counted_sum (x ∷ y ∷ others))) few)
+  operands_of limits leaves _ is = absurd is
 
   pub clock_refused : {B : Type 0} (expression_of : B → Expression) (why : Refusal) (s t : State) → s.operators ≡ 0 → RefusesSeparated (ExpressionRead expression_of depth) (ExpressionRefused expression_of depth) (mark (codes "^=")) s t why → RefusedBy (InClockEquation depth) ContinuesClockEquation s t why
   clock_refused expression_of why s t none h text = refuses_first Operands (InClockEquation depth) (same_clock depth no_place ∷ some_leaf ∷ []) (λ limits leaves is. one_more limits leaves is.0 is.1 is.2)
@@ -102,6 +101,5 @@ pub fresh_none : (begun : State) {s : State} → s ≡ record { leaves = begun.l
 fresh_none begun e = ap (λ (x : State). x.operators) e
 
 pub two_mapped : {A B : Type 0} (f : B → A) (xs : List B) → 2 ≤ length xs → 2 ≤ length (map f xs)
-two_mapped f [] two = absurd (omega arith)
-two_mapped f (x ∷ []) two = absurd (omega arith)
 two_mapped f (x ∷ y ∷ xs) two = omega arith
+two_mapped f _ two = absurd (omega arith)

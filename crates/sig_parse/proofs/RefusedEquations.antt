@@ -27,8 +27,6 @@ module _ (depth : ℕ) where
       → (xs : List Expression) → IsClockEquation limits depth xs whole
       → (y : Expression) × (others : List Expression) × (at : Span) × (second last : List Leaf) × (rest ≡ same_clock at ∷ (second ++ (last ++ back))) × IsExpression limits depth y second
       × Further (IsExpression limits depth) (mark (codes "^=")) others last × MayHave limits (operators x + (operators y + counted operators others))
-  behind_first x front is_x limits rest whole back e stopped [] is = absurd is
-  behind_first x front is_x limits rest whole back e stopped (z ∷ []) is = absurd is
   behind_first x front is_x limits rest whole back e stopped (z ∷ y ∷ others) ((first, more, f, is, (at, second, last, g, is_y, are)), few) =
       let part = part_at (IsExpression no_limits depth) (ContinuesExpression default_level) x (expression_once no_limits default_level depth x) z front first rest (more ++ back) (e ∙ append_to whole first more back f)
       (expression_unlimited both_limits default_level depth depth x front is_x) (expression_unlimited limits default_level depth depth z first is) stopped
@@ -43,6 +41,7 @@ module _ (depth : ℕ) where
         are,
         fewer limits (operators x + (operators y + counted operators others)) (sum_by operators (z ∷ y ∷ others)) (omega (arith, counted_sum (z ∷ y ∷ others), ap operators part.0)) few,
       )
+  behind_first x front is_x limits rest whole back e stopped _ is = absurd is
 
   -- "^=" behind it
   pub clock_sign : (x : Expression) (front : List Leaf) → IsExpression both_limits depth x front → operators x ≤ 512 → (cause : Cause) (here after : List Leaf) → StopsBefore (ContinuesExpression default_level) here

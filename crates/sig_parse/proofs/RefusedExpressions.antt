@@ -1,5 +1,5 @@
 -- Refusals of the parts of expressions, where the parser stands.
-use Rattle.sig_parse.proofs.Common.{◌≡◌, ◌++◌, ◌+◌, ◌≤◌, ◌<◌, ℕ, suc, List, [], ◌∷◌, codes, Option, inl, inr, ◌⊎◌, refl, sym, ap, ◌∙◌, subst, append_assoc, arith, append-nil, append_cancel_right, Span, Constant, UnOp, Not as UnaryNot, Neg, When as UnaryWhen, Clock as UnaryClock, BinOp, Default as OpDefault, Expression, Unary, Terminal, Leaf, leaf, number, word, mark, unary_terminal, default_level, mixed_level, relation_level, delay_level, primary_level, unary_level, operand_level, binary_level, right_level, Limits, both_limits, operators, IsInit, IsOptionalInit, IsOptionalOne, IsAtLevel, StopsBefore, StartsWith, BeginsExpression, ContinuesNothing, ContinuesInit, ContinuesExpression, IsAtom, IsOperand, WithOperand, WithCell, WithDelay, IsStep, AreSoMany, stops_smaller, tighter_continues, not_tighter, Refusal, Syntax, Nesting, Operators, Level, Relation, Primary, Infix, Binary, Cell, Delay as DelayOp, State, Reads, Shorter, IsLeaf, Cause, Wrong, TooDeep, TooMany, cause_of, Refuses, IsOfText, Settles, InLeaf, InInit, InOptionalInit, InOptionalOne, InLevel, InOperand, InStep, InSteps, level_number, first_level, infix_terminal, infix_level, IsOperatorOf, ContinuesStep, BeginsAtom, IsTighter, ReadsStep, Completes}
+use Rattle.sig_parse.proofs.Common.{◌≡◌, ◌++◌, ◌+◌, ◌≤◌, ◌<◌, ℕ, suc, List, [], ◌∷◌, codes, Option, inl, inr, ◌⊎◌, refl, sym, ap, ◌∙◌, subst, append_assoc, arith, append-nil, append_cancel_right, Span, Constant, UnOp, Clock as UnaryClock, BinOp, Default as OpDefault, Expression, Unary, Terminal, Leaf, leaf, number, word, mark, unary_terminal, default_level, mixed_level, relation_level, delay_level, primary_level, unary_level, operand_level, binary_level, right_level, Limits, both_limits, operators, IsInit, IsOptionalInit, IsOptionalOne, IsAtLevel, StopsBefore, StartsWith, BeginsExpression, ContinuesNothing, ContinuesInit, ContinuesExpression, IsAtom, IsOperand, WithOperand, WithCell, WithDelay, IsStep, AreSoMany, stops_smaller, tighter_continues, not_tighter, Refusal, Syntax, Nesting, Operators, Level, Relation, Primary, Infix, Binary, Cell, Delay as DelayOp, State, Reads, Shorter, IsLeaf, Cause, Wrong, TooDeep, TooMany, cause_of, Refuses, IsOfText, Settles, InLeaf, InInit, InOptionalInit, InOptionalOne, InLevel, InOperand, InStep, InSteps, level_number, first_level, infix_terminal, infix_level, IsOperatorOf, ContinuesStep, BeginsAtom, IsTighter, ReadsStep, Completes}
 use Rattle.sig_tree.specs.Continuing.{IsInfix as StandsBehind}
 use Rattle.sig_parse.proofs.Joins.{joined, viewed, after_leaf}
 use Rattle.sig_parse.proofs.LiftedRefusals.{Lifts, leaf_split, wrong}
@@ -216,10 +216,8 @@ no_beginning : (here : List Leaf) → StopsBefore (λ t. t ≡ mark (codes "^"))
 no_beginning [] no_clock no_opening no_atom = tt
 no_beginning (l ∷ here) no_clock no_opening no_atom = go where
   prefix : (op : UnOp) → l.terminal ≡ unary_terminal op → primary_level ≤ unary_level op → ⊥
-  prefix UnaryWhen e within = omega arith
-  prefix UnaryNot e within = omega arith
-  prefix Neg e within = omega arith
   prefix UnaryClock e within = no_clock e
+  prefix _ e within = omega arith
 
   go : BeginsExpression primary_level l.terminal → ⊥
   go (inl (inl (op, e, within))) = prefix op e within

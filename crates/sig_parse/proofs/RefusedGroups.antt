@@ -1,5 +1,5 @@
 -- What is refused of groups up to the mark that ends them, from their parts.
-use Rattle.sig_parse.proofs.Common.{◌≡◌, ◌++◌, ◌⊎◌, List, [], ◌∷◌, codes, inl, inr, refl, sym, ap, ◌∙◌, subst, append_assoc, Span, Integer, Boolean, Event, Declared, Terminal, Leaf, leaf, word, mark, Limits, Further, AreGroups, StartsWith, BeginsGroup, StopsBefore, ContinuesNothing, no_place, different, cons_same, append_to, Declares, Parameters, Inputs, Signals, IsGroupOf, State, Covers, IsLeaf, Cause, Refuses, Settles, Closes, InLeaf, InSome, UpTo, InGroup, InGroups, ContinuesItem, ContinuesItems, EndsGroups}
+use Rattle.sig_parse.proofs.Common.{◌≡◌, ◌++◌, ◌⊎◌, List, [], ◌∷◌, codes, inl, inr, refl, sym, ap, ◌∙◌, subst, append_assoc, Span, Integer, Boolean, Event, Declared, Terminal, Leaf, leaf, word, mark, Limits, Further, AreGroups, StartsWith, BeginsGroup, StopsBefore, ContinuesNothing, no_place, different, cons_same, append_to, Declares, Signals, IsGroupOf, State, Covers, IsLeaf, Cause, Refuses, Settles, Closes, InLeaf, InSome, UpTo, InGroup, InGroups, ContinuesItem, ContinuesItems, EndsGroups}
 use Rattle.sig_parse.proofs.PartRefusals.{SameFirst}
 use Rattle.sig_parse.proofs.ClosedRows.{closes_next}
 use Rattle.sig_parse.proofs.PassedLanguages.{Leads, Then, Apart, leads_refuses, leads_on, refuses_where, leads_where, then_first, leads_settled, starts_or_stops}
@@ -145,9 +145,8 @@ ending_semicolon t (inr (inl e)) f = different (mark (codes "!")) (mark (codes "
 ending_semicolon t (inr (inr e)) f = different (mark (codes ")")) (mark (codes ";")) refl refl (sym e ∙ f)
 
 mark_no_item : (declares : Declares) (text : List _) → ContinuesItem declares (mark text) → ⊥
-mark_no_item Parameters text none = none
-mark_no_item Inputs text none = none
 mark_no_item Signals text e = let both : mark text ≡ word (codes "init") = e in cc
+mark_no_item _ text none = none
 
 pub ending_continues : (declares : Declares) (t : Terminal) → EndsGroups t → ContinuesItems declares t → ⊥
 ending_continues declares t (inl e) (inl f) = different (mark (codes "}")) (mark (codes ",")) refl refl (sym e ∙ f)

@@ -8,8 +8,7 @@ use Rattle.sig_parse.proofs.RefusedConstants.{some_name, some_leaf}
 -- the operators of an expression are those of its first operand and of its steps
 stepped_operators : (x : Expression) (s : Step) → operators (stepped x s) ≡ operators x + step_operators s
 stepped_operators x (WithOperand op right at) = omega arith
-stepped_operators x (WithCell held init at) = omega arith
-stepped_operators x (WithDelay init at) = omega arith
+stepped_operators x _ = omega arith
 
 pub all_operators : (x : Expression) (steps : List Step) → operators (stepped_all x steps) ≡ operators x + steps_operators steps
 all_operators x [] = omega arith
@@ -186,8 +185,7 @@ module _ (level depth taken used : ℕ) where
       where
         counted : (s : Step) → 1 ≤ step_operators s
         counted (WithOperand op right at) = omega arith
-        counted (WithCell held init at) = omega arith
-        counted (WithDelay init at) = omega arith
+        counted _ = omega arith
 
     named : (wanted : ℕ) → wanted ≤ primary_level → IsAtLevel nesting_limit wanted depth (Named some_name) (some_leaf ∷ [])
     named wanted low = (0, (low, refl))

@@ -1,6 +1,5 @@
 -- What the parts of the parser refuse: names, numbers, truths and parentheses.
-use Rattle.sig_parse.proofs.Common.{◌≡◌, ◌++◌, ◌+◌, ◌≤◌, ◌<◌, ℕ, suc, List, [], ◌∷◌, codes, inl, inr, refl, sym, ap, ◌∙◌, subst, arith, append-nil, Span, UnOp, Expression, Named, Number, Truth, Unary, Leaf, leaf, name, number, mark, truth_word, unary_terminal, default_level, primary_level, Limits, both_limits, nesting_limit, no_limits, MayStandInside, operators, IsAtLevel, StopsBefore, BeginsExpression, ContinuesNothing, ContinuesExpression, IsAtom, IsOperand, no_place, AtTruth, AtOpening, AtPrefix, first_of, expression_unlimited, expression_within, prefix_first, truth_first, expression_once, expression_begins, cons_same, append_to, part_at, mark_apart, stops_nothing, operand_at, Cause, Wrong, TooDeep, Refuses, InLeaf, InLevel, InOperand}
-use Rattle.sig_tree.specs.Syntax.{Binary, Delay, Cell}
+use Rattle.sig_parse.proofs.Common.{◌≡◌, ◌++◌, ◌+◌, ◌≤◌, ◌<◌, ℕ, suc, List, [], ◌∷◌, codes, inl, inr, refl, sym, ap, ◌∙◌, subst, arith, append-nil, Span, UnOp, Expression, Named, Number, Truth, Leaf, leaf, name, number, mark, truth_word, unary_terminal, default_level, primary_level, Limits, both_limits, nesting_limit, no_limits, MayStandInside, operators, IsAtLevel, StopsBefore, BeginsExpression, ContinuesNothing, ContinuesExpression, IsAtom, IsOperand, no_place, AtTruth, AtOpening, AtPrefix, first_of, expression_unlimited, expression_within, prefix_first, truth_first, expression_once, expression_begins, cons_same, append_to, part_at, mark_apart, stops_nothing, operand_at, Cause, Wrong, TooDeep, Refuses, InLeaf, InLevel, InOperand}
 use Rattle.sig_parse.proofs.PartRefusals.{first_stops, refuses_inside, refuses_at_once}
 use Rattle.sig_parse.proofs.RefusedConstants.{some_name, some_leaf}
 use Rattle.sig_parse.proofs.RefusedOperands.{named_operand}
@@ -34,10 +33,7 @@ module _ (depth used : ℕ) where
       let terminals : mark (codes "(") ≡ truth_word truth = ap (λ l. l.terminal) heads.0 in
       let firsts : AtOpening ≡ AtTruth truth = ap first_of terminals ∙ truth_first truth in
       cc
-  atom_no_opening (Unary op operand at) opened rest whole back e is = is
-  atom_no_opening (Binary op left right at) opened rest whole back e is = is
-  atom_no_opening (Delay operand init at) opened rest whole back e is = is
-  atom_no_opening (Cell operand held init at) opened rest whole back e is = is
+  atom_no_opening _ opened rest whole back e is = is
 
   parentheses_part : (opened : Span) (limits : Limits) (rest whole back : List Leaf) → leaf (mark (codes "(")) opened ∷ rest ≡ whole ++ back → (x : Expression) → IsOperand limits primary_level depth x whole
       → (closed : Span) × (inside : List Leaf) × (rest ≡ inside ++ leaf (mark (codes ")")) closed ∷ back) × MayStandInside limits depth × IsAtLevel limits default_level (suc depth) x inside

@@ -1,9 +1,9 @@
 -- What is refused of processes, from their parts.
-use Rattle.sig_parse.proofs.Common.{◌≡◌, ◌++◌, ◌⊎◌, ◌<◌, ℕ, suc, List, [], ◌∷◌, true, false, codes, None, inl, inr, refl, sym, ap, ◌∙◌, subst, append_assoc, Span, Integer, Boolean, Event, Not, Neg, When as UnaryWhen, Clock, Declared, ProcessModel, ProcessModels, no_model, more_models, Terminal, Leaf, leaf, number, word, mark, default_level, Limits, both_limits, no_limits, MayStandInside, IsLocalGroup, IsModel, AreLocals, StartsWith, BeginsBody, BeginsGroup, BeginsProcess, StopsBefore, OneReading, ContinuesNothing, ContinuesOptional, ContinuesBody, ContinuesLocals, no_place, different, infix_of, no_infix, model_unlimited, model_within, local_group_begins, model_begins, cons_same, append_to, mark_apart, stops_nothing, name_same, local_group_once, model_once, locals_at, IsTitle, IsInnerProcess, AreDeclared, State, Covers, IsLeaf, Cause, Refuses, Settles, InAny, UpTo, InLocalGroup, InProcess, IsDeclared, InDeclared, InWhere}
+use Rattle.sig_parse.proofs.Common.{◌≡◌, ◌++◌, ◌⊎◌, ◌<◌, ℕ, suc, List, [], ◌∷◌, true, false, codes, None, inl, inr, refl, sym, ap, ◌∙◌, subst, append_assoc, Span, Integer, Boolean, Event, Not, Neg, When as UnaryWhen, Clock, Declared, ProcessModel, ProcessModels, no_model, more_models, Terminal, Leaf, leaf, number, word, mark, default_level, Limits, both_limits, no_limits, MayStandInside, IsLocalGroup, IsModel, AreLocals, StartsWith, BeginsBody, BeginsGroup, BeginsProcess, StopsBefore, OneReading, ContinuesNothing, ContinuesOptional, ContinuesBody, ContinuesLocals, no_place, different, infix_of, no_infix, model_unlimited, model_within, local_group_begins, model_begins, cons_same, append_to, mark_apart, stops_nothing, name_same, local_group_once, model_once, locals_at, IsTitle, IsInnerProcess, AreDeclared, State, Covers, IsLeaf, Cause, Refuses, Settles, InAny, UpTo, InLocalGroup, InProcess, IsDeclared, InDeclared, InWhere, starts_front}
 use Rattle.sig_parse.proofs.PartRefusals.{SameFirst}
 use Rattle.sig_parse.proofs.PassedLanguages.{Leads, Then, leads_refuses, settles_on, refuses_where, leads_where, apart_nothing, then_first, leads_alone, settled_once, Leaf_of, leads_leaf, starts_or_stops, starts_same}
 use Rattle.sig_parse.proofs.RefusedDeclarations.{Always}
-use Rattle.sig_parse.proofs.Enclosures.{both_begin, starts_as, up_to_once, up_to_covered, optional_refused, optional_settled, optional_missing, leaf_next}
+use Rattle.sig_parse.proofs.Enclosures.{both_begin, up_to_once, up_to_covered, optional_refused, optional_settled, optional_missing, leaf_next}
 
 -- what does not continue a body
 word_no_body : (text : List ℕ) → infix_of (word text) ≡ None → (word text ≡ word (codes "init") → ⊥) → ContinuesBody (word text) → ⊥
@@ -111,7 +111,7 @@ module _ (depth : ℕ) where
   group_from here no_end no_process limits whole back ((g ∷ gs, no_model), (ended, inside, e, (front, rest, f, is, are))) same =
       (g, front, rest ++ leaf (word (codes "end")) ended ∷ [], e ∙ append_to inside front rest (leaf (word (codes "end")) ended ∷ []) f, is, ((gs, no_model), (ended, rest, refl, are)))
   group_from here no_end no_process limits whole back ((groups, more_models model others), (ended, inside, e, ([], after, front, middle, last, f, g, none, (may, is), are))) same =
-      absurd (starts_or_stops BeginsProcess here (whole ++ back) same no_process (starts_as BeginsProcess (whole ++ back) middle (last ++ (leaf (word (codes "end")) ended ∷ back))
+      absurd (starts_or_stops BeginsProcess here (whole ++ back) same no_process (starts_front BeginsProcess (whole ++ back) middle (last ++ (leaf (word (codes "end")) ended ∷ back))
       (append_to whole inside (leaf (word (codes "end")) ended ∷ []) back e ∙ ap (λ ls. ls ++ leaf (word (codes "end")) ended ∷ back) (g ∙ ap (λ ls. ls ++ (middle ++ last)) none) ∙ append_assoc middle last (leaf (word (codes "end")) ended ∷ back))
       (model_begins limits model (suc depth) middle is)))
   group_from here no_end no_process limits whole back ((groups, more_models model others), (ended, inside, e, (b ∷ bs, after, front, middle, last, f, g, (first, rest, h, is_group, each), one, are))) same = (
@@ -154,7 +154,7 @@ module _ (depth : ℕ) where
       (starts_same BeginsProcess here (leaf (word (codes "end")) ended ∷ back) (subst (λ (ls : List Leaf). SameFirst here (ls ++ back)) (e ∙ ap (λ ls. ls ++ leaf (word (codes "end")) ended ∷ []) none) same) next) refl)
   process_from here next limits whole back ((g ∷ gs, no_model), (ended, inside, e, (front, rest, f, is, are))) same =
       absurd (both_begin BeginsProcess BeginsGroup group_no_process (whole ++ back) (starts_same BeginsProcess here (whole ++ back) same next)
-      (starts_as BeginsGroup (whole ++ back) front (rest ++ (leaf (word (codes "end")) ended ∷ back)) (append_to whole inside (leaf (word (codes "end")) ended ∷ []) back e ∙ append_to inside front rest (leaf (word (codes "end")) ended ∷ back) f) (local_group_begins g front is)))
+      (starts_front BeginsGroup (whole ++ back) front (rest ++ (leaf (word (codes "end")) ended ∷ back)) (append_to whole inside (leaf (word (codes "end")) ended ∷ []) back e ∙ append_to inside front rest (leaf (word (codes "end")) ended ∷ back) f) (local_group_begins g front is)))
   process_from here next limits whole back ((groups, more_models model others), (ended, inside, e, ([], after, front, middle, last, f, g, none, one, are))) same = (
     model,
     middle,
@@ -165,7 +165,7 @@ module _ (depth : ℕ) where
   )
   process_from here next limits whole back ((groups, more_models model others), (ended, inside, e, (b ∷ bs, after, front, middle, last, f, g, (first, rest, h, is_group, each), one, are))) same =
       absurd (both_begin BeginsProcess BeginsGroup group_no_process (whole ++ back) (starts_same BeginsProcess here (whole ++ back) same next)
-      (starts_as BeginsGroup (whole ++ back) first ((rest ++ (middle ++ last)) ++ (leaf (word (codes "end")) ended ∷ back))
+      (starts_front BeginsGroup (whole ++ back) first ((rest ++ (middle ++ last)) ++ (leaf (word (codes "end")) ended ∷ back))
       (append_to whole inside (leaf (word (codes "end")) ended ∷ []) back e ∙ append_to inside first (rest ++ (middle ++ last)) (leaf (word (codes "end")) ended ∷ back) (g ∙ ap (λ ls. ls ++ (middle ++ last)) h ∙ append_assoc first rest (middle ++ last)))
       (local_group_begins b first is_group)))
 

@@ -108,15 +108,13 @@ goes_on_free passed [] (processes, is) = (processes, fewer_limits processes pass
 goes_on_free passed (l ∷ after) (rest, processes, is) = (rest, processes, fewer_limits processes ((passed ++ l ∷ []) ++ rest) is)
 
 cause_same : (c d : Cause) (passed after : List Leaf) → GoesOnOtherwise c passed after → GoesOnOtherwise d passed after → (GoesOn (refused_within c) passed after → ⊥) → (GoesOn (refused_within d) passed after → ⊥) → c ≡ d
-cause_same Wrong Wrong passed after a b f g = refl
 cause_same Wrong TooDeep passed after a b f g = absurd (f b.1)
 cause_same Wrong TooMany passed after a b f g = absurd (f (goes_on_free passed after b.1))
 cause_same TooDeep Wrong passed after a b f g = absurd (g a.1)
-cause_same TooDeep TooDeep passed after a b f g = refl
 cause_same TooDeep TooMany passed after a b f g = absurd (f b.1)
 cause_same TooMany Wrong passed after a b f g = absurd (g (goes_on_free passed after a.1))
 cause_same TooMany TooDeep passed after a b f g = absurd (g a.1)
-cause_same TooMany TooMany passed after a b f g = refl
+cause_same _ _ passed after a b f g = refl
 
 -- one of two beginnings of the same leaves is the longer one
 abbrev Longer : (p a q b : List Leaf) → Type 0

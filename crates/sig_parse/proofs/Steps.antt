@@ -1,5 +1,5 @@
 -- The steps of reading an expression.
-use Rattle.sig_parse.proofs.Common.{◌≡◌, ◌++◌, ◌+◌, ◌≤◌, ◌<◌, ℕ, suc, List, [], ◌∷◌, codes, length, length-append, Option, refl, sym, ap, subst, arith, Span, Constant, UnOp, Not, Neg, When, Clock, BinOp, Expression, Unary, Leaf, leaf, mark, unary_terminal, default_level, primary_level, unary_level, operand_level, right_level, both_limits, operators, IsInit, IsOptionalInit, IsOptionalOne, IsAtLevel, Level, Relation, Infix, Binary as BinaryOp, Cell as CellOp, Delay as DelayOp, State, Reads, Shorter, IsLeaf, level_number, first_level, infix_terminal, IsTighter, IsInfix, Completes}
+use Rattle.sig_parse.proofs.Common.{◌≡◌, ◌++◌, ◌+◌, ◌≤◌, ◌<◌, ℕ, suc, List, [], ◌∷◌, codes, length, length-append, Option, refl, sym, ap, subst, arith, Span, Constant, UnOp, Not, BinOp, Expression, Unary, Leaf, leaf, mark, unary_terminal, default_level, primary_level, unary_level, operand_level, right_level, both_limits, operators, IsInit, IsOptionalInit, IsOptionalOne, IsAtLevel, Level, Relation, Infix, Binary as BinaryOp, Cell as CellOp, Delay as DelayOp, State, Reads, Shorter, IsLeaf, level_number, first_level, infix_terminal, IsTighter, IsInfix, Completes}
 use Rattle.sig_tree.specs.Syntax.{Binary, Delay, Cell}
 use Rattle.sig_parse.proofs.Joins.{joined, viewed, after_leaf, no_longer}
 use Rattle.sig_parse.proofs.ExpressionParts.{looser, parenthesised, unary, completes_binary, completes_cell, completes_delay, completed}
@@ -18,9 +18,7 @@ same_first level other = refl
 
 not_relation : (op : UnOp) → unary_level op ≡ level_number Relation → ⊥
 not_relation Not e = omega arith
-not_relation Neg e = omega arith
-not_relation When e = omega arith
-not_relation Clock e = omega arith
+not_relation _ e = omega arith
 
 pub prefix_first : (op : UnOp) (level : Level) → unary_level op ≡ level_number level → first_level level ≡ unary_level op
 prefix_first op Relation e = absurd (not_relation op e)

@@ -29,13 +29,11 @@ refusal_for TooMany = Operators
 
 pub refused_for : {Is : Limits → List Leaf → Type 0} {Continues : Terminal → Type 0} {before after : List Leaf} (cause : Cause) → Refuses Is Continues cause before after → Refuses Is Continues (cause_of (refusal_for cause)) before after
 refused_for Wrong r = r
-refused_for TooDeep r = r
-refused_for TooMany r = r
+refused_for _ r = r
 
 pub of_text : (cause : Cause) → IsOfText (refusal_for cause)
 of_text Wrong = λ memory. cc
-of_text TooDeep = λ memory. cc
-of_text TooMany = λ memory. cc
+of_text _ = λ memory. cc
 
 -- where the parser stands before these leaves
 abbrev pub standing : List Leaf → State

@@ -1,5 +1,5 @@
 -- What is read and refused of declarations and of pragmas.
-use Rattle.sig_parse.proofs.Common.{◌≡◌, ◌≢◌, ◌++◌, ◌<◌, ◌⊎◌, ℕ, zero, suc, List, [], ◌∷◌, length, codes, arith, inl, inr, refl, None, Span, Kind, Integer, Boolean, Event, Name, Item, Declared, Placement, Terminal, name, word, mark, kind_word, Between, Each, Separated, IsName, AreGroups, IsPlacement, ArePragmas, IsLocalGroup, StartsWith, StopsBefore, ContinuesNothing, ContinuesInit, ContinuesOptional, Declares, Parameters, Inputs, Signals, IsItemOf, IsGroupOf, State, Reads, IsLeaf, Shorter, Wrong, cause_of, Settles, Closes, InKind, InItems, InGroup, InGroups, InLocalGroup, InBraced, InPragma, InPragmaList, InPragmas, InOptionalInit, ContinuesItems, EndsGroups}
+use Rattle.sig_parse.proofs.Common.{◌≡◌, ◌≢◌, ◌++◌, ◌<◌, ◌⊎◌, ℕ, zero, suc, List, [], ◌∷◌, length, codes, arith, inl, inr, refl, None, Span, Kind, Integer, Boolean, Event, Name, Item, Declared, Placement, Terminal, name, word, mark, kind_word, Between, Each, Separated, IsName, AreGroups, IsPlacement, ArePragmas, IsLocalGroup, StartsWith, StopsBefore, ContinuesNothing, ContinuesInit, ContinuesOptional, Declares, Parameters, Signals, IsItemOf, IsGroupOf, State, Reads, IsLeaf, Shorter, Wrong, cause_of, Settles, Closes, InKind, InItems, InGroup, InGroups, InLocalGroup, InBraced, InPragma, InPragmaList, InPragmas, InOptionalInit, ContinuesItems, EndsGroups}
 use Rattle.sig_parse.proofs.NextLeaf.{Taken, taken, missing, take, TakenName, taken_name, missing_name, take_name, dec_terminal, starts_or_not}
 use Rattle.sig_parse.proofs.Verdicts.{Verdict, read, refused, behind, seen, refusal_for, refused_for, of_text, standing, Row, row_read, row_refused, separated}
 use Rattle.sig_parse.proofs.Verdicts as V
@@ -31,8 +31,7 @@ module _ (s : State) where
 
   last_kind : (declares : Declares) → StopsBefore (λ t. t ≡ word (codes "integer")) s.leaves → StopsBefore (λ t. t ≡ word (codes "boolean")) s.leaves → KindVerdict declares s
   last_kind Parameters no_integer no_boolean = refused Wrong s.leaves (kind_of_parameter Parameters refl s.leaves no_integer no_boolean)
-  last_kind Inputs no_integer no_boolean = event_kind Inputs (λ is. let both : Inputs ≡ Parameters = is in cc) no_integer no_boolean
-  last_kind Signals no_integer no_boolean = event_kind Signals (λ is. let both : Signals ≡ Parameters = is in cc) no_integer no_boolean
+  last_kind declares no_integer no_boolean = event_kind declares (λ is. let both : declares ≡ Parameters = is in cc) no_integer no_boolean
 
   module _ (declares : Declares) where
     with_boolean : StopsBefore (λ t. t ≡ word (codes "integer")) s.leaves → Taken (word (codes "boolean")) s → KindVerdict declares s
@@ -61,9 +60,8 @@ initialised n s t r shorter = at (optional_init_verdict t) where
   at (refused cause after q) = V.item_refused (refusal_for cause) (standing after) (of_text cause) (λ text. refused_for cause (item_from_init Signals refl n (covered r) q))
 
 item_named : (declares : Declares) (n : Name) (s t : State) → Reads (IsName n) 0 s t → Shorter s t → ItemOutcome declares s
-item_named Parameters n s t r shorter = plain_read Parameters (λ is. let both : Parameters ≡ Signals = is in cc) n r shorter
-item_named Inputs n s t r shorter = plain_read Inputs (λ is. let both : Inputs ≡ Signals = is in cc) n r shorter
 item_named Signals n s t r shorter = initialised n s t r shorter
+item_named declares n s t r shorter = plain_read declares (λ is. let both : declares ≡ Signals = is in cc) n r shorter
 
 item_outcome : (declares : Declares) (s : State) → ItemOutcome declares s
 item_outcome declares s = at (take_name s) where

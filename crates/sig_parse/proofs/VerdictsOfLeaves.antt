@@ -103,7 +103,7 @@ init_or_none limits leaves (Some c, is) = inr (c, is)
 init_starts : (limits : Limits) (leaves : List Leaf) → InInit limits leaves → StartsWith (λ t. t ≡ word (codes "init")) leaves
 init_starts limits leaves (c, (at, rest, e, is)) = subst (λ (ls : List Leaf). StartsWith (λ t. t ≡ word (codes "init")) ls) (sym e) refl
 
-next_is : (t : Terminal) (at : Span) {s u : State} → Reads (IsLeaf t at) 0 s u → StartsWith (λ v. v ≡ t) s.leaves
+pub next_is : (t : Terminal) (at : Span) {s u : State} → Reads (IsLeaf t at) 0 s u → StartsWith (λ v. v ≡ t) s.leaves
 next_is t at r = subst (λ (ls : List Leaf). StartsWith (λ v. v ≡ t) ls) (sym (leaf_split r)) refl
 
 pub optional_init_verdict : (s : State) → Verdict (OptionalInitRead s) InOptionalInit ContinuesInit s.leaves

@@ -1,14 +1,13 @@
 -- What is read and refused of the sides of definitions, of definitions and of clock equations.
-use Rattle.sig_parse.proofs.Common.{◌≡◌, ◌<◌, ◌≤◌, ◌⊎◌, ℕ, suc, List, [], ◌∷◌, length, map, map-id, sum_by, codes, arith, inl, inr, refl, sym, subst, Span, Name, Constant, Expression, RightSide, Computed, Called, Equations, Defines, Equal, Terminal, Leaf, mark, both_limits, operators, right_operators, Separated, Listed, IsConstant, IsExpression, IsName, IsLeft, AreConstants, AreArguments, IsRight, IsClockEquation, IsBody, StartsWith, StopsBefore, BeginsName, ContinuesNothing, ContinuesOptional, ContinuesDefinition, ContinuesClockEquation, Syntax, State, Reads, Covers, IsLeaf, Wrong, TooDeep, cause_of, Settles, Closes, InNames, InLeft, InConstant, InConstantList, InConstants, InArgumentList, InArguments, InRight, InDefinition, InClockEquation, BeginsCall, cases_lt, dec_both, dec_either}
+use Rattle.sig_parse.proofs.Common.{◌≡◌, ◌<◌, ◌≤◌, ◌⊎◌, ℕ, suc, List, [], ◌∷◌, length, map, map-id, sum_by, codes, arith, inl, inr, refl, subst, Name, Constant, Expression, RightSide, Computed, Called, Equations, Defines, Equal, Terminal, Leaf, mark, both_limits, operators, right_operators, Separated, Listed, IsConstant, IsExpression, IsName, IsLeft, AreConstants, AreArguments, IsRight, IsClockEquation, IsBody, StartsWith, StopsBefore, BeginsName, ContinuesNothing, ContinuesOptional, ContinuesDefinition, ContinuesClockEquation, Syntax, State, Reads, Covers, Wrong, TooDeep, cause_of, Settles, Closes, InNames, InLeft, InConstant, InConstantList, InConstants, InArgumentList, InArguments, InRight, InDefinition, InClockEquation, BeginsCall, cases_lt, dec_both, dec_either}
 use Rattle.sig_parse.specs.inner.Ahead.{StartsThen}
 use Rattle.sig_parse.specs.declared.operator.Level.TheVariants.{Default as DefaultLevel}
 use Rattle.sig_parse.proofs.NextLeaf.{Taken, taken, missing, take, TakenName, taken_name, missing_name, take_name, dec_name, dec_terminal, starts_or_not}
 use Rattle.sig_parse.proofs.Verdicts.{Verdict, read, refused, behind, seen, refusal_for, refused_for, of_text, standing, Item, item_read, item_refused, Row, row_read, row_refused, separated}
-use Rattle.sig_parse.proofs.VerdictsOfLeaves.{expected, ConstantIs, constant_verdict}
+use Rattle.sig_parse.proofs.VerdictsOfLeaves.{expected, ConstantIs, constant_verdict, next_is}
 use Rattle.sig_parse.proofs.VerdictsOfExpressions.{LevelVerdict, level_verdict}
 use Rattle.sig_parse.proofs.CoveredParts.{covered}
 use Rattle.sig_parse.proofs.Joins.{viewed, nothing}
-use Rattle.sig_parse.proofs.LiftedRefusals.{leaf_split}
 use Rattle.sig_parse.proofs.EnclosedParts.{between, call}
 use Rattle.sig_parse.proofs.ClosedRows.{closes_next}
 use Rattle.sig_parse.proofs.RefusedTokens.{name_refused}
@@ -20,9 +19,6 @@ use Rattle.sig_parse.proofs.RefusedExpressions.{starts_and_stops}
 use Rattle.sig_parse.proofs.SettledBodies.{right_settles_expression, right_settles_call, operands_settled}
 use Rattle.sig_parse.proofs.RefusedDefinitions.{definition_left, definition_define, definition_right, definition_settled, clock_refused, clock_alone, clock_stops}
 use Rattle.sig_parse.proofs.BodyLemmas.{definition, clock_equation}
-
-next_is : (t : Terminal) (at : Span) {s u : State} → Reads (IsLeaf t at) 0 s u → StartsWith (λ v. v ≡ t) s.leaves
-next_is t at r = subst (λ (ls : List Leaf). StartsWith (λ v. v ≡ t) ls) (sym (leaf_split r)) refl
 
 -- ---- names
 

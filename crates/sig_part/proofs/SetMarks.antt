@@ -2,9 +2,8 @@
 use Rattle.sig_part.proofs.Common.{◌≡◌, ◌≢◌, ◌<◌, ◌+◌, ◌⊎◌, inl, inr, ◌↔◌, ℕ, Bool, true, false, List, [], ◌∷◌, length, get_or, set, replicate, refl, sym, ap, ◌∙◌, arith, get_or-set_same, get_or-set_other, zero, suc, sum_by, if◌then◌else◌, cases_order, false≢true, sum_by-set, SigId, mark_at, marked_count, signal_same}
 
 pub no_mark : (n k : ℕ) → mark_at (replicate n false) k ≡ false
-no_mark zero k = refl
-no_mark (suc n) zero = refl
 no_mark (suc n) (suc k) = no_mark n k
+no_mark _ _ = refl
 
 pub marked_within : (marks : List Bool) (k : ℕ) → mark_at marks k ≡ true → k < length marks
 marked_within [] k is = absurd (false≢true is)

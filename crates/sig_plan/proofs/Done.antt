@@ -25,9 +25,8 @@ or_else_present None b = refl
 or_else_present (Some u) b = refl
 
 where_true_present : (b x : Status) → is_some (where_true b x) ≡ true → is_some x ≡ true
-where_true_present None x is = absurd (false≢true is)
 where_true_present (Some true) x is = is
-where_true_present (Some false) x is = absurd (false≢true is)
+where_true_present _ x is = absurd (false≢true is)
 
 operands_present : (reaction : Reaction) (present : Bool) (operands : List Operand) (x : SigId) → list_all (is_with reaction present) operands ≡ true → Contains (signals_of operands) x → present ≡ is_present reaction x.0
 operands_present reaction present [] x all there = absurd (contains_none x there)
@@ -64,9 +63,6 @@ module _ (kernel : Kernel) (presence : Presence) (proposal : List Bool) (reactio
       let there = at y (target_below (length kernel.signals) (When y x b) y within refl) in
       only ReadsPresent _ (λ done z among.
       reads_one x z among (where_true_present (status_at reaction b.0) (status_at reaction x.0) (sym (statuses_are_same (status_at reaction y.0) (where_true (status_at reaction b.0) (status_at reaction x.0)) is) ∙ (there ∙ done))))
-  writes_read number (WhenConst y constant b) (within, is) = only ReadsPresent _ (λ done z among. absurd (contains_none z among))
-  writes_read number (Event y x) (within, is) = only ReadsPresent _ (λ done z among. absurd (contains_none z among))
-  writes_read number (Delay y x initial) (within, is) = only ReadsPresent _ (λ done z among. absurd (contains_none z among))
   writes_read number (Sync x y) (within, is) = All-nil ReadsPresent
   writes_read number (Default y u v) (within, is) =
       let operands = operands_below (length kernel.signals) (Default y u v) within in
@@ -75,18 +71,14 @@ module _ (kernel : Kernel) (presence : Presence) (proposal : List Bool) (reactio
       All-cons ReadsPresent (writing kernel.signals number Left (presence u) y (u ∷ [])) (writing kernel.signals number Right (without (presence v) (presence u)) y (v ∷ []) ∷ [])
       (λ done x among. reads_one u x among (there_u ∙ done))
       (only ReadsPresent _ (λ done x among. reads_one v x among (there_v ∙ (and_parts (presence v proposal) (not (presence u proposal)) done).0)))
+  writes_read number _ (within, is) = only ReadsPresent _ (λ done z among. absurd (contains_none z among))
 
   stores_read : (number : EqId) (form : Form) → Made form → All ReadsPresent (stores_of kernel.signals presence number form)
   unfolding Made
   stores_read number (Delay y x initial) (within, is) =
       let there = at x (first_below (length kernel.signals) x _ (operands_below (length kernel.signals) (Delay y x initial) within)) in
       only ReadsPresent _ (λ done z among. reads_one x z among (there ∙ done))
-  stores_read number (Fun y op operands) (within, is) = All-nil ReadsPresent
-  stores_read number (When y x b) (within, is) = All-nil ReadsPresent
-  stores_read number (WhenConst y constant b) (within, is) = All-nil ReadsPresent
-  stores_read number (Default y u v) (within, is) = All-nil ReadsPresent
-  stores_read number (Sync x y) (within, is) = All-nil ReadsPresent
-  stores_read number (Event y x) (within, is) = All-nil ReadsPresent
+  stores_read number _ (within, is) = All-nil ReadsPresent
 
   module _ (valid : IsValid kernel) (is : IsReaction kernel reaction) where
     each_made : (k : ℕ) (d : Equation) → k < length kernel.equations → Made (get_or kernel.equations k d).form
@@ -140,12 +132,7 @@ module _ (kernel : Kernel) (presence : Presence) (proposal : List Bool) (reactio
 
     stores_tally : (number : EqId) (form : Form) → tally (does x proposal) (stores_of kernel.signals presence number form) ≡ 0
     stores_tally number (Delay y z initial) = tally_one (store_of kernel.signals presence number y z)
-    stores_tally number (Fun y op operands) = tally_none (does x proposal)
-    stores_tally number (When y z b) = tally_none (does x proposal)
-    stores_tally number (WhenConst y constant b) = tally_none (does x proposal)
-    stores_tally number (Default y u v) = tally_none (does x proposal)
-    stores_tally number (Sync y z) = tally_none (does x proposal)
-    stores_tally number (Event y z) = tally_none (does x proposal)
+    stores_tally number _ = tally_none (does x proposal)
 
     all_stores : (n : ℕ) (equations : List Equation) → tally (does x proposal) (of_each (stores_of kernel.signals presence) n equations) ≡ 0
     all_stores n [] = tally_none (does x proposal)

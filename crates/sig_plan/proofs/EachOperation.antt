@@ -87,9 +87,4 @@ each_guard kernel presence P valid one two =
 
     stores : (number : EqId) (form : Form) → form_within (length kernel.signals) form ≡ true → All (λ (p : Operation). P p.guard) (stores_of kernel.signals presence number form)
     stores number (Delay y x initial) within = only Guarded _ (one x (first_below (length kernel.signals) x _ (operands_below (length kernel.signals) (Delay y x initial) within)))
-    stores number (Fun y op operands) within = All-nil Guarded
-    stores number (When y x b) within = All-nil Guarded
-    stores number (WhenConst y constant b) within = All-nil Guarded
-    stores number (Default y u v) within = All-nil Guarded
-    stores number (Sync x y) within = All-nil Guarded
-    stores number (Event y x) within = All-nil Guarded
+    stores number _ within = All-nil Guarded

@@ -1,11 +1,9 @@
 -- A kernel is accepted, or refused for one reason.
 use Rattle.sig_plan.proofs.Common.{◌≡◌, ℕ, List, length, refl, sym, ap, ◌∙◌, subst, arith, None, Some, All, false≢true, SigId, HasClocks, IsFirstPinned, IsMissingRoot, IsOpen, IsUnsolved, IsDead, status_at, dead_has_none, one_least, same_pinned, same_roots, absent_in_silence, IsValid, Kernel, HasCycle, HasOperations, HasTooManyLinks, IsAcceptedKernel, KernelFault, Cycle, Dead, MissingRoot, Pinned, TooManyLinks, Unsolved, Operation, HasNoCycle, IsCycle, IsOnCycle, AreParts}
 use Rattle.sig_plan.specs.Acceptance.{IsRefusedFor}
+use Rattle.sig_plan.proofs.Lists.{signal_same}
 use Rattle.sig_plan.proofs.OperationsOnce.{operations_once}
 use Rattle.sig_plan.proofs.PartsOnce.{WritesWithin, operations_fine, parts_once}
-
-sig : (x y : SigId) → x.0 ≡ y.0 → x ≡ y
-sig x y same = λ j. record { 0 = same j }
 
 module _ (kernel : Kernel) where
   dead_root : (x y : ℕ) → IsDead kernel → IsMissingRoot kernel x y → ⊥
@@ -59,45 +57,38 @@ module _ (kernel : Kernel) where
     same_cycle : (x y : SigId) → HasCycle kernel x → HasCycle kernel y → x ≡ y
     same_cycle x y one other =
         let moved = over_these (λ cs os. IsCycle cs os y.0) one.conditions other.conditions one.operations other.operations one.has other.has other.cycle in
-        sig x y (one_least (IsOnCycle one.conditions one.operations) x.0 y.0 one.cycle moved)
+        signal_same x y (one_least (IsOnCycle one.conditions one.operations) x.0 y.0 one.cycle moved)
 
     pub fault_once : (a b : KernelFault) → IsRefusedFor kernel a → IsRefusedFor kernel b → a ≡ b
-    fault_once Dead Dead one other = refl
     fault_once Dead (MissingRoot x y) one other = absurd (dead_root x.0 y.0 one other)
     fault_once Dead (Unsolved x) one other = absurd (dead_open x.0 one other)
     fault_once Dead (Pinned b) one other = absurd (dead_pinned b.0 one other)
     fault_once Dead (Cycle x) one other = absurd (dead_has_none kernel one other.has.clocks)
     fault_once Dead TooManyLinks one other = absurd (dead_has_none kernel one other.has.clocks)
     fault_once (MissingRoot x y) Dead one other = absurd (dead_root x.0 y.0 other one)
-    fault_once (MissingRoot x y) (MissingRoot u v) one other = let same = same_roots kernel x.0 y.0 u.0 v.0 one other in λ j. MissingRoot (sig x u same.0 j) (sig y v same.1 j)
+    fault_once (MissingRoot x y) (MissingRoot u v) one other = let same = same_roots kernel x.0 y.0 u.0 v.0 one other in λ j. MissingRoot (signal_same x u same.0 j) (signal_same y v same.1 j)
     fault_once (MissingRoot x y) (Unsolved u) one other = absurd (root_open x.0 y.0 u.0 one other)
     fault_once (MissingRoot x y) (Pinned b) one other = absurd (root_pinned x.0 y.0 b.0 one other)
-    fault_once (MissingRoot x y) (Cycle u) one other = absurd (root_clocks x.0 y.0 one other.has.clocks)
-    fault_once (MissingRoot x y) TooManyLinks one other = absurd (root_clocks x.0 y.0 one other.has.clocks)
     fault_once (Unsolved x) Dead one other = absurd (dead_open x.0 other one)
     fault_once (Unsolved x) (MissingRoot u v) one other = absurd (root_open u.0 v.0 x.0 other one)
-    fault_once (Unsolved x) (Unsolved y) one other = ap Unsolved (sig x y (one_least (IsOpen kernel) x.0 y.0 one.first other.first))
+    fault_once (Unsolved x) (Unsolved y) one other = ap Unsolved (signal_same x y (one_least (IsOpen kernel) x.0 y.0 one.first other.first))
     fault_once (Unsolved x) (Pinned b) one other = absurd (open_pinned x.0 b.0 one other)
-    fault_once (Unsolved x) (Cycle u) one other = absurd (open_clocks x.0 one other.has.clocks)
-    fault_once (Unsolved x) TooManyLinks one other = absurd (open_clocks x.0 one other.has.clocks)
     fault_once (Pinned b) Dead one other = absurd (dead_pinned b.0 other one)
     fault_once (Pinned b) (MissingRoot u v) one other = absurd (root_pinned u.0 v.0 b.0 other one)
     fault_once (Pinned b) (Unsolved x) one other = absurd (open_pinned x.0 b.0 other one)
-    fault_once (Pinned b) (Pinned d) one other = ap Pinned (sig b d (same_pinned kernel b.0 d.0 one other))
-    fault_once (Pinned b) (Cycle u) one other = absurd (pinned_clocks b.0 one other.has.clocks)
-    fault_once (Pinned b) TooManyLinks one other = absurd (pinned_clocks b.0 one other.has.clocks)
+    fault_once (Pinned b) (Pinned d) one other = ap Pinned (signal_same b d (same_pinned kernel b.0 d.0 one other))
     fault_once (Cycle x) Dead one other = absurd (dead_has_none kernel other one.has.clocks)
-    fault_once (Cycle x) (MissingRoot u v) one other = absurd (root_clocks u.0 v.0 other one.has.clocks)
-    fault_once (Cycle x) (Unsolved u) one other = absurd (open_clocks u.0 other one.has.clocks)
-    fault_once (Cycle x) (Pinned b) one other = absurd (pinned_clocks b.0 other one.has.clocks)
     fault_once (Cycle x) (Cycle y) one other = ap Cycle (same_cycle x y one other)
     fault_once (Cycle x) TooManyLinks one other = absurd (cycle_or_none x other.conditions other.operations one other.has other.acyclic)
     fault_once TooManyLinks Dead one other = absurd (dead_has_none kernel other one.has.clocks)
-    fault_once TooManyLinks (MissingRoot u v) one other = absurd (root_clocks u.0 v.0 other one.has.clocks)
-    fault_once TooManyLinks (Unsolved u) one other = absurd (open_clocks u.0 other one.has.clocks)
-    fault_once TooManyLinks (Pinned b) one other = absurd (pinned_clocks b.0 other one.has.clocks)
     fault_once TooManyLinks (Cycle y) one other = absurd (cycle_or_none y one.conditions one.operations other one.has one.acyclic)
-    fault_once TooManyLinks TooManyLinks one other = refl
+    fault_once (MissingRoot x y) _ one other = absurd (root_clocks x.0 y.0 one other.has.clocks)
+    fault_once (Unsolved x) _ one other = absurd (open_clocks x.0 one other.has.clocks)
+    fault_once (Pinned b) _ one other = absurd (pinned_clocks b.0 one other.has.clocks)
+    fault_once _ (MissingRoot u v) one other = absurd (root_clocks u.0 v.0 other one.has.clocks)
+    fault_once _ (Unsolved u) one other = absurd (open_clocks u.0 other one.has.clocks)
+    fault_once _ (Pinned b) one other = absurd (pinned_clocks b.0 other one.has.clocks)
+    fault_once _ _ one other = refl
 
     links_or_few : HasTooManyLinks kernel → IsAcceptedKernel kernel → ⊥
     links_or_few many is =

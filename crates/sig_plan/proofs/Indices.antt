@@ -1,5 +1,5 @@
 -- Operations name signals and equations of their kernel.
-use Rattle.sig_plan.proofs.Common.{◌≡◌, ◌<◌, ℕ, inl, inr, true, List, [], ◌∷◌, length, sym, subst, Contains, All, Some, slice_get, All-cons, All-contains, All-nil, EqId, SigId, IsValid, form_within, Form, Fun, Delay, When, WhenConst, Default, Sync, Event, Kernel, HasOperations, Operation, Presence, operations_of, stores_of, without, writes_of, writing, Writes, Left, Right, contains_at, contains_cons, contains_none, slice_get_within}
+use Rattle.sig_plan.proofs.Common.{◌≡◌, ◌<◌, ℕ, inl, inr, true, List, [], ◌∷◌, length, sym, subst, Contains, All, Some, slice_get, All-cons, All-contains, All-nil, EqId, SigId, IsValid, form_within, Form, Fun, Delay, When, Default, Sync, Kernel, HasOperations, Operation, Presence, operations_of, stores_of, without, writes_of, writing, Writes, Left, Right, contains_at, contains_cons, contains_none, slice_get_within}
 use Rattle.sig_plan.proofs.EachOperation.{each_operation, first_below, only, operands_below, second_below, signal_below}
 use Rattle.sig_plan.proofs.WrittenSignals.{operations_written}
 
@@ -20,25 +20,18 @@ module _ (kernel : Kernel) (presence : Presence) where
   unfolding Within
   writes_below number (Fun y op operands) within = only ReadsBelow _ (λ x there. signal_below (length kernel.signals) operands x (operands_below (length kernel.signals) (Fun y op operands) within) there)
   writes_below number (When y x b) within = only ReadsBelow _ (λ z there. one_below x z (first_below (length kernel.signals) x _ (operands_below (length kernel.signals) (When y x b) within)) there)
-  writes_below number (WhenConst y constant b) within = only ReadsBelow _ none_below
-  writes_below number (Event y x) within = only ReadsBelow _ none_below
-  writes_below number (Delay y x initial) within = only ReadsBelow _ none_below
   writes_below number (Sync x y) within = All-nil ReadsBelow
   writes_below number (Default y u v) within =
       let operands = operands_below (length kernel.signals) (Default y u v) within in
       All-cons ReadsBelow (writing kernel.signals number Left (presence u) y (u ∷ [])) (writing kernel.signals number Right (without (presence v) (presence u)) y (v ∷ []) ∷ [])
       (λ x there. one_below u x (first_below (length kernel.signals) u _ operands) there)
       (only ReadsBelow _ (λ x there. one_below v x (second_below (length kernel.signals) u v operands) there))
+  writes_below number _ within = only ReadsBelow _ none_below
 
   stores_below : (number : EqId) (form : Form) → Within form → All ReadsBelow (stores_of kernel.signals presence number form)
   unfolding Within
   stores_below number (Delay y x initial) within = only ReadsBelow _ (λ z there. one_below x z (first_below (length kernel.signals) x _ (operands_below (length kernel.signals) (Delay y x initial) within)) there)
-  stores_below number (Fun y op operands) within = All-nil ReadsBelow
-  stores_below number (When y x b) within = All-nil ReadsBelow
-  stores_below number (WhenConst y constant b) within = All-nil ReadsBelow
-  stores_below number (Default y u v) within = All-nil ReadsBelow
-  stores_below number (Sync x y) within = All-nil ReadsBelow
-  stores_below number (Event y x) within = All-nil ReadsBelow
+  stores_below number _ within = All-nil ReadsBelow
 
   -- an operation's equation is one of the kernel
   abbrev HasEquation : Operation → Type 0
@@ -48,24 +41,15 @@ module _ (kernel : Kernel) (presence : Presence) where
   of_number number e lt is = let same : number ≡ e = cc in subst (λ (n : EqId). n.0 < length kernel.equations) same lt
 
   writes_have : (number : EqId) (form : Form) → number.0 < length kernel.equations → All HasEquation (writes_of kernel.signals presence number form)
-  writes_have number (Fun y op operands) lt = only HasEquation _ (λ e is. of_number number e lt is)
-  writes_have number (When y x b) lt = only HasEquation _ (λ e is. of_number number e lt is)
-  writes_have number (WhenConst y constant b) lt = only HasEquation _ (λ e is. of_number number e lt is)
-  writes_have number (Event y x) lt = only HasEquation _ (λ e is. of_number number e lt is)
-  writes_have number (Delay y x initial) lt = only HasEquation _ (λ e is. of_number number e lt is)
   writes_have number (Sync x y) lt = All-nil HasEquation
   writes_have number (Default y u v) lt =
       All-cons HasEquation (writing kernel.signals number Left (presence u) y (u ∷ [])) (writing kernel.signals number Right (without (presence v) (presence u)) y (v ∷ []) ∷ [])
       (λ e is. of_number number e lt is) (only HasEquation _ (λ e is. of_number number e lt is))
+  writes_have number _ lt = only HasEquation _ (λ e is. of_number number e lt is)
 
   stores_have : (number : EqId) (form : Form) → number.0 < length kernel.equations → All HasEquation (stores_of kernel.signals presence number form)
   stores_have number (Delay y x initial) lt = only HasEquation _ (λ e is. of_number number e lt is)
-  stores_have number (Fun y op operands) lt = All-nil HasEquation
-  stores_have number (When y x b) lt = All-nil HasEquation
-  stores_have number (WhenConst y constant b) lt = All-nil HasEquation
-  stores_have number (Default y u v) lt = All-nil HasEquation
-  stores_have number (Sync x y) lt = All-nil HasEquation
-  stores_have number (Event y x) lt = All-nil HasEquation
+  stores_have number _ lt = All-nil HasEquation
 
   pub all_reads : IsValid kernel → All ReadsBelow (operations_of kernel presence)
   unfolding Within

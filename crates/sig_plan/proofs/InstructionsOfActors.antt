@@ -45,9 +45,8 @@ module _ (f : ℕ × LinkInfo → Option ℕ) where
 
 pub same_option : (a b : Option SigId) → is_signal a b ≡ true → a ≡ b
 same_option (Some x) (Some y) is = let same = eqb-true x.0 y.0 is in λ j. Some (record { 0 = same j })
-same_option (Some x) None is = absurd (false≢true is)
-same_option None (Some y) is = absurd (false≢true is)
 same_option None None is = refl
+same_option _ _ is = absurd (false≢true is)
 
 -- what a choice that gave a number gave
 when_one : (b : Bool) (k l : ℕ) → (let o : Option ℕ = cond b (Some k) None in o) ≡ Some l → (b ≡ true) × (k ≡ l)

@@ -1,5 +1,5 @@
 -- A link has one writer and one reader, and what is sent on it is received at an equal position under an equal guard.
-use Rattle.sig_plan.proofs.Common.{◌≡◌, ◌≢◌, ◌<◌, ◌≤◌, ◌+◌, ◌*◌, ◌⊎◌, ◌++◌, inl, inr, ℕ, Bool, true, List, [], ◌∷◌, length, map, refl, sym, ap, ◌∙◌, subst, arith, Contains, zero, suc, None, Option, Some, fold, max, slice_get, ◌==◌, if◌then◌else◌, enumerate_from, range_with_len, le-max_left, le-max_right, Contains-append_left, Contains-append_right, SigId, Signal, IsValid, Kernel, HasOperations, Instruction, at_end, at_number, at_place, instructions_of, is_signal, links_of, links_to, over_order, op_id, report_links, reports_of, under, unguarded, CarriesFrom, IsFor, StandsAt, collects, commits, does, receives, reports, sends, Operation, AreParts, Imports, used, output, guarded, IsWrittenElsewhere, PartsView, report_link, AreWritten, Do, Send, Receive, Report, Collect, Commit, LinkInfo, at_contained, contains_at, contains_head, contains_later, contains_mapped, mapped_from, Contains-append_cases, eq-eqb, ne_eqb}
+use Rattle.sig_plan.proofs.Common.{◌≡◌, ◌≢◌, ◌<◌, ◌≤◌, ◌+◌, ◌*◌, ◌⊎◌, ◌++◌, inl, inr, ℕ, Bool, true, List, [], ◌∷◌, length, map, refl, sym, ap, ◌∙◌, subst, arith, Contains, zero, suc, None, Option, Some, fold, max, slice_get, ◌==◌, if◌then◌else◌, enumerate_from, range_with_len, le-max_left, le-max_right, Contains-append_left, Contains-append_right, SigId, Signal, IsValid, Kernel, HasOperations, Instruction, at_end, at_number, at_place, instructions_of, is_signal, links_of, links_to, over_order, op_id, report_links, reports_of, under, unguarded, CarriesFrom, IsFor, StandsAt, collects, receives, reports, sends, Operation, AreParts, Imports, used, output, guarded, IsWrittenElsewhere, PartsView, report_link, AreWritten, Do, Send, Receive, Report, Collect, Commit, LinkInfo, at_contained, contains_at, contains_head, contains_later, contains_mapped, mapped_from, Contains-append_cases, eq-eqb, ne_eqb}
 use Rattle.sig_plan.proofs.InstructionsOfActors.{chosen, instruction_for}
 use Rattle.sig_plan.proofs.Lists.{contains_flat, contains_numbered, in_range}
 use Rattle.sig_plan.proofs.WrittenSignals.{operations_written}
@@ -155,45 +155,29 @@ module _ (kernel : Kernel) (valid : IsValid kernel) (conditions : List SigId) (o
 
     -- its writer alone sends or reports on it
     sender : (i : Instruction) → IsFor operations order parts.links parts.clusters actor i → (i.kind ≡ Send link) ⊎ (i.kind ≡ Report link) → actor ≡ info.writer
-    sender _ (does j number p stands own) (inl is) = cc
-    sender _ (does j number p stands own) (inr is) = cc
     sender _ (sends j number l p stands own from) (inl is) =
         let same = same_info l from.info from.is (send_same l link is) in
         sym own ∙ (writer_cluster l p from number stands.is ∙ ap (λ (f : LinkInfo). f.writer) same)
-    sender _ (sends j number l p stands own from) (inr is) = cc
-    sender _ (receives j number l p stands other from reader) (inl is) = cc
-    sender _ (receives j number l p stands other from reader) (inr is) = cc
-    sender _ (reports l found other there none writer) (inl is) = cc
     sender _ (reports l found other there none writer) (inr is) =
         let same = same_info l found there (report_same l link is) in
         sym writer ∙ ap (λ (f : LinkInfo). f.writer) same
-    sender _ (collects l found own there none) (inl is) = cc
-    sender _ (collects l found own there none) (inr is) = cc
-    sender _ (commits own) (inl is) = cc
-    sender _ (commits own) (inr is) = cc
+    sender _ _ (inl is) = cc
+    sender _ _ (inr is) = cc
 
     collect_same : (a b : ℕ) → Collect a ≡ Collect b → a ≡ b
     collect_same a b is = cc
 
     -- and its reader alone receives or collects from it
     receiver : (i : Instruction) → IsFor operations order parts.links parts.clusters actor i → (i.kind ≡ Receive link) ⊎ (i.kind ≡ Collect link) → actor ≡ info.reader
-    receiver _ (does j number p stands own) (inl is) = cc
-    receiver _ (does j number p stands own) (inr is) = cc
-    receiver _ (sends j number l p stands own from) (inl is) = cc
-    receiver _ (sends j number l p stands own from) (inr is) = cc
     receiver _ (receives j number l p stands other from reader) (inl is) =
         let same = same_info l from.info from.is (receive_same l link is) in
         sym reader ∙ ap (λ (f : LinkInfo). f.reader) same
-    receiver _ (receives j number l p stands other from reader) (inr is) = cc
-    receiver _ (reports l found other there none writer) (inl is) = cc
-    receiver _ (reports l found other there none writer) (inr is) = cc
-    receiver _ (collects l found own there none) (inl is) = cc
     receiver _ (collects l found own there none) (inr is) =
         let same = same_info l found there (collect_same l link is) in
         let ends = report_ends l found there none in
         own ∙ (sym ends.1 ∙ ap (λ (f : LinkInfo). f.reader) same)
-    receiver _ (commits own) (inl is) = cc
-    receiver _ (commits own) (inr is) = cc
+    receiver _ _ (inl is) = cc
+    receiver _ _ (inr is) = cc
 
     pub one_writer : (i : Instruction) → Contains (instructions_of operations order parts actor) i → (i.kind ≡ Send link) ⊎ (i.kind ≡ Report link) → actor ≡ info.writer
     one_writer i there kind = sender i (instruction_for operations order parts actor i there) kind

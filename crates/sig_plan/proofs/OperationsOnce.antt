@@ -33,15 +33,10 @@ module _ (kernel : Kernel) (p q : Presence) (same : (x : SigId) → x.0 < length
       λ j. writing kernel.signals number Left (at_u j) y (u ∷ []) ∷ writing kernel.signals number Right (without (at_v j) (at_u j)) y (v ∷ []) ∷ []
 
   same_stores : (number : EqId) (form : Form) → form_within (length kernel.signals) form ≡ true → stores_of kernel.signals p number form ≡ stores_of kernel.signals q number form
-  same_stores number (Fun y op xs) within = refl
-  same_stores number (When y x b) within = refl
-  same_stores number (WhenConst y constant b) within = refl
-  same_stores number (Event y x) within = refl
-  same_stores number (Sync x y) within = refl
-  same_stores number (Default y u v) within = refl
   same_stores number (Delay y x initial) within =
       let e = below x (and_parts (is_below (length kernel.signals) x) true (operands (Delay y x initial) within)).0 in
       λ j. record { kind = Store number; guard = e j; writes = None; reads = x ∷ []; equation = Some number; cluster = cluster_at kernel.signals y } ∷ []
+  same_stores number _ within = refl
 
   same_each : (f g : EqId → Form → List Operation) → ((number : EqId) (form : Form) → form_within (length kernel.signals) form ≡ true → f number form ≡ g number form)
       → (n : ℕ) (equations : List Equation) → AllPass (λ equation. form_within (length kernel.signals) equation.form) equations → of_each f n equations ≡ of_each g n equations

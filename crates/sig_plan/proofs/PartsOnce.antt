@@ -28,13 +28,8 @@ module _ (signals : List Signal) (p : Presence) where
       All-cons (WritesWithin (length signals)) (writing signals number Left (p u) y (u ∷ [])) (right ∷ []) is (one_operation right is)
 
   stores_fine : (number : EqId) (form : Form) → form_within (length signals) form ≡ true → All (WritesWithin (length signals)) (stores_of signals p number form)
-  stores_fine number (Fun y op xs) within = All-nil (WritesWithin (length signals))
-  stores_fine number (When y x b) within = All-nil (WritesWithin (length signals))
-  stores_fine number (WhenConst y constant b) within = All-nil (WritesWithin (length signals))
-  stores_fine number (Event y x) within = All-nil (WritesWithin (length signals))
-  stores_fine number (Sync x y) within = All-nil (WritesWithin (length signals))
-  stores_fine number (Default y u v) within = All-nil (WritesWithin (length signals))
   stores_fine number (Delay y x initial) within = one_operation _ tt
+  stores_fine number _ within = All-nil (WritesWithin (length signals))
 
   each_fine : (make : EqId → Form → List Operation) → ((number : EqId) (form : Form) → form_within (length signals) form ≡ true → All (WritesWithin (length signals)) (make number form))
       → (n : ℕ) (equations : List Equation) → AllPass (λ equation. form_within (length signals) equation.form) equations → All (WritesWithin (length signals)) (of_each make n equations)

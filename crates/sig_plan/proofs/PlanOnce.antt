@@ -12,14 +12,13 @@ id_same x y same = λ j. record { 0 = same j }
 
 ids_once : (xs ys : List OpId) → numbers_of xs ≡ numbers_of ys → xs ≡ ys
 ids_once [] [] same = refl
-ids_once [] (y ∷ ys) same = cc
-ids_once (x ∷ xs) [] same = cc
 ids_once (x ∷ xs) (y ∷ ys) same =
     let head : x.0 ≡ y.0 = cc in
     let tail : numbers_of xs ≡ numbers_of ys = cc in
     let first = id_same x y head in
     let rest = ids_once xs ys tail in
     λ j. first j ∷ rest j
+ids_once _ _ same = cc
 
 module _ (a b : PlanView) (one : IsAccepted a) (other : IsAccepted b) (kernels : a.kernel ≡ b.kernel) where
   has : HasOperations a.kernel b.clocks.conditions (operations_in b.store.nodes b.ops)

@@ -1,5 +1,5 @@
 -- Before a step whose guard holds, an actor has done or received what the step needs and reads.
-use Rattle.sig_plan.proofs.Common.{◌≡◌, ◌≢◌, ◌<◌, ◌≤◌, ◌+◌, ◌*◌, inl, inr, ℕ, Bool, true, List, [], ◌∷◌, length, map, get_or, refl, sym, ap, ◌∙◌, subst, arith, Contains, All, None, Option, Some, slice_get, slice_index, zero, suc, and_parts, cases_eq, false≢true, All-cons, All-contains, All-nil, Contains-append_left, EqId, SigId, Signal, KeepsTo, signal_id, Reaction, Speaks, are_statuses, is_present, is_status_of, Depends, IsValid, Form, Fun, Delay, When, WhenConst, Default, Sync, Event, Kernel, HasOperations, Instruction, instructions_of, op_id, under, IsFor, Provides, StandsAt, collects, commits, does, receives, reports, sends, Operation, Presence, cluster_at, cluster_of, operations_of, stores_of, without, writes_of, writing, IsCompiledOrder, Needs, Writes, AreParts, Imports, used, output, guarded, IsOutput, PartsView, cluster_count, Do, Send, Receive, Commit, Left, Right, LinkInfo, Precedes, at_contained, contains_at, slice_get-get_or, slice_get_within}
+use Rattle.sig_plan.proofs.Common.{◌≡◌, ◌≢◌, ◌<◌, ◌≤◌, ◌+◌, ◌*◌, inl, inr, ℕ, Bool, true, List, [], ◌∷◌, length, map, get_or, refl, sym, ap, ◌∙◌, subst, arith, Contains, All, None, Option, Some, slice_get, slice_index, zero, suc, and_parts, cases_eq, false≢true, All-cons, All-contains, All-nil, Contains-append_left, EqId, SigId, Signal, KeepsTo, signal_id, Reaction, Speaks, are_statuses, is_present, is_status_of, Depends, IsValid, Form, Fun, Delay, When, WhenConst, Default, Sync, Event, Kernel, HasOperations, Instruction, instructions_of, op_id, under, IsFor, Provides, StandsAt, commits, does, receives, sends, Operation, Presence, cluster_at, cluster_of, operations_of, stores_of, without, writes_of, writing, IsCompiledOrder, Needs, Writes, AreParts, Imports, used, output, guarded, IsOutput, PartsView, cluster_count, Do, Send, Receive, Commit, Left, Right, LinkInfo, Precedes, at_contained, contains_at, slice_get-get_or, slice_get_within}
 use Rattle.sig_plan.proofs.Done.{present_written}
 use Rattle.sig_plan.proofs.EachOperation.{each_operation, only}
 use Rattle.sig_plan.proofs.Earlier.{needed_earlier, read_earlier}
@@ -42,12 +42,7 @@ module _ (kernel : Kernel) (presence : Presence) where
 
   stores_in : (number : EqId) (form : Form) → Unit {0} → All InCluster (stores_of kernel.signals presence number form)
   stores_in number (Delay y x initial) t = only InCluster _ (some_cluster kernel.signals y)
-  stores_in number (Fun y op operands) t = All-nil InCluster
-  stores_in number (When y x b) t = All-nil InCluster
-  stores_in number (WhenConst y constant b) t = All-nil InCluster
-  stores_in number (Default y u v) t = All-nil InCluster
-  stores_in number (Sync x y) t = All-nil InCluster
-  stores_in number (Event y x) t = All-nil InCluster
+  stores_in number _ t = All-nil InCluster
 
   pub all_in_clusters : All InCluster (operations_of kernel presence)
   all_in_clusters = each_operation InCluster kernel presence (λ number form. Unit {0}) (λ k d lt. tt) (λ number lt. some_cluster kernel.signals (signal_id number)) writes_in stores_in
@@ -177,9 +172,7 @@ module _ (kernel : Kernel) (valid : IsValid kernel) (conditions : List SigId) (o
         guarded from.signal condition imported (record { writer = q; is = (number, stands.is); writes = from.writes; needs = needs })
         (record { writer = p; is = (m, at_p); writes = writes; other = apart })) in
         before k _ at condition (2 * i + 1) is (omega (arith, less))
-    needed_before k _ at (reports link info other at_link none writer) (ts, ne) = absurd (ne refl)
-    needed_before k _ at (collects link info own at_link none) (ts, ne) = absurd (ne refl)
-    needed_before k _ at (commits own) (ts, ne) = absurd (ne refl)
+    needed_before k _ at _ (ts, ne) = absurd (ne refl)
 
     -- a condition that a step's guard needs, and that is present, was written or received before
     pub condition_before : (k : ℕ) (b : Instruction) → slice_get all k ≡ Some b → Depends b.guard v → Before k condition
@@ -195,11 +188,7 @@ module _ (kernel : Kernel) (valid : IsValid kernel) (conditions : List SigId) (o
       let same : p ≡ q = cc in
       let (i, less, is) = reads_provided j m p stands own holds x (subst (λ (r : Operation). Contains r.reads x) (sym same) reads) in
       before k _ at x (2 * i + 1) is (omega (arith, less))
-  read_by k _ at (sends j m link p stands own from) number q kind at_q holds x reads = cc
-  read_by k _ at (receives j m link p stands other from reader) number q kind at_q holds x reads = cc
-  read_by k _ at (reports link info other at_link none writer) number q kind at_q holds x reads = cc
-  read_by k _ at (collects link info own at_link none) number q kind at_q holds x reads = cc
-  read_by k _ at (commits own) number q kind at_q holds x reads = cc
+  read_by k _ at _ number q kind at_q holds x reads = cc
 
   -- what an operation that is done reads was written or received before
   pub read_before : (k : ℕ) (b : Instruction) → slice_get all k ≡ Some b → (number : ℕ) (q : Operation) → b.kind ≡ Do (op_id number) → slice_get operations number ≡ Some q
@@ -219,11 +208,7 @@ module _ (kernel : Kernel) (valid : IsValid kernel) (conditions : List SigId) (o
       before k _ at x (2 * j)
       (record { instruction = under p (Do (op_id m)) (2 * j); there = does_there operations order parts actor j m p stands own; earlier = omega arith; done = holds; provides = inl (m, p, stands.is, subst (Writes p) signal from.writes, refl) })
       (omega arith)
-  sent_by k _ at (does j m p stands own) link info x kind at_link carries holds = cc
-  sent_by k _ at (receives j m l p stands other from reader) link info x kind at_link carries holds = cc
-  sent_by k _ at (reports l found other there none writer) link info x kind at_link carries holds = cc
-  sent_by k _ at (collects l found own there none) link info x kind at_link carries holds = cc
-  sent_by k _ at (commits own) link info x kind at_link carries holds = cc
+  sent_by k _ at _ link info x kind at_link carries holds = cc
 
   -- what is sent was written before
   pub sent_before : (k : ℕ) (b : Instruction) → slice_get all k ≡ Some b → (link : ℕ) (info : LinkInfo) (x : SigId) → b.kind ≡ Send link → slice_get parts.links link ≡ Some info
@@ -240,11 +225,7 @@ module _ (kernel : Kernel) (valid : IsValid kernel) (conditions : List SigId) (o
       before k _ at x (2 * i + 1)
       (provided i m p x (record { place = place; is = at_p }) writes done (λ other. output x (own ∙ split.clusters) is_output (record { writer = p; is = (m, at_p); writes = writes; other = other })))
       (omega (arith, lt_i, full))
-  commit_by k _ at (does j m p stands own) kind x is_output present = cc
-  commit_by k _ at (sends j m link p stands own from) kind x is_output present = cc
-  commit_by k _ at (receives j m link p stands other from reader) kind x is_output present = cc
-  commit_by k _ at (reports link info other at_link none writer) kind x is_output present = cc
-  commit_by k _ at (collects link info own at_link none) kind x is_output present = cc
+  commit_by k _ at _ kind x is_output present = cc
 
   -- what is committed was received before
   pub committed_before : (k : ℕ) (b : Instruction) → slice_get all k ≡ Some b → b.kind ≡ Commit → (x : SigId) → IsOutput kernel x → is_present reaction x.0 ≡ true → Before k x

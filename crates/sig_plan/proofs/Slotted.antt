@@ -1,5 +1,5 @@
 -- The guards of an accepted plan's operations and slots.
-use Rattle.sig_plan.proofs.Common.{◌≡◌, ◌≢◌, ◌<◌, ◌⊎◌, inl, inr, ℕ, Bool, false, true, List, length, get_or, refl, sym, ap, ◌∙◌, subst, arith, None, Some, slice_get, All-contains, SigId, KeepsTo, Reaction, Speaks, status_at, ref_depends, asked_agree, asks_depends, asks_no_idle, Depends, truth_of, with_truth, Holds, IsRefOf, diagram, test, Asks, IsIdle, Ref, CodeView, Instruction, always, instructions_of, IsFor, collects, commits, does, receives, reports, sends, Guard, Operation, operation_in, operations_in, IsAccepted, PlanView, numbers_of, Slot, Op, LinkInfo, IsGuardOf, of_operation, of_slot, contains_at, slice_get-get_or, slice_get_within, get_map}
+use Rattle.sig_plan.proofs.Common.{◌≡◌, ◌≢◌, ◌<◌, ◌⊎◌, inl, inr, ℕ, Bool, false, true, List, length, get_or, refl, sym, ap, ◌∙◌, subst, arith, None, Some, slice_get, All-contains, SigId, KeepsTo, Reaction, Speaks, status_at, ref_depends, asked_agree, asks_depends, asks_no_idle, Depends, truth_of, with_truth, Holds, IsRefOf, diagram, test, Asks, IsIdle, Ref, CodeView, Instruction, always, instructions_of, IsFor, does, receives, sends, Guard, Operation, operation_in, operations_in, IsAccepted, PlanView, numbers_of, Slot, Op, LinkInfo, IsGuardOf, of_operation, of_slot, contains_at, slice_get-get_or, slice_get_within, get_map}
 use Rattle.sig_plan.proofs.Accepted.{plan_operations}
 use Rattle.sig_plan.proofs.Earlier.{guards_alone, guards_idle}
 use Rattle.sig_plan.proofs.InstructionsOfActors.{instruction_for}
@@ -17,9 +17,7 @@ module _ (plan : PlanView) (is : IsAccepted plan) where
   of_instruction order links clusters actor _ (does j number p stands own) = inl (number, p, stands.is, refl)
   of_instruction order links clusters actor _ (sends j number link p stands own from) = inl (number, p, stands.is, refl)
   of_instruction order links clusters actor _ (receives j number link p stands other from reader) = inl (number, p, stands.is, refl)
-  of_instruction order links clusters actor _ (reports link info other at none writer) = inr refl
-  of_instruction order links clusters actor _ (collects link info own at none) = inr refl
-  of_instruction order links clusters actor _ (commits own) = inr refl
+  of_instruction order links clusters actor _ _ = inr refl
 
   slot_guard : (actor : ℕ) (code : CodeView) → slice_get plan.codes actor ≡ Some code → (i : ℕ) (slot : Slot) → slice_get code.slots i ≡ Some slot
       → (guard : Guard) × FromOperation guard × IsRefOf plan.store.nodes guard slot.guard

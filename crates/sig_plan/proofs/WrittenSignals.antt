@@ -66,12 +66,7 @@ module _ (signals : List Signal) where
 
     store_own : (number : EqId) (form : Form) → All (IsOwn signals) (stores_of signals presence number form)
     store_own number (Delay y x initial) = own_one (store_of signals presence number y x) (λ z is. cc)
-    store_own number (Fun y op operands) = own_none
-    store_own number (When y x b) = own_none
-    store_own number (WhenConst y constant b) = own_none
-    store_own number (Default y u v) = own_none
-    store_own number (Sync x y) = own_none
-    store_own number (Event y x) = own_none
+    store_own number _ = own_none
 
     stores_own : (n : ℕ) (equations : List Equation) → All (IsOwn signals) (of_each (stores_of signals presence) n equations)
     stores_own n [] = own_none

@@ -95,12 +95,7 @@ store_of signals presence number y x = record {
 
 abbrev pub stores_of : List Signal → Presence → EqId → Form → List Operation
 stores_of signals presence number (Delay y x initial) = store_of signals presence number y x ∷ []
-stores_of signals presence number (Fun y op operands) = []
-stores_of signals presence number (When y x b) = []
-stores_of signals presence number (WhenConst y constant b) = []
-stores_of signals presence number (Default y u v) = []
-stores_of signals presence number (Sync x y) = []
-stores_of signals presence number (Event y x) = []
+stores_of signals presence number _ = []
 
 abbrev pub equation_id : ℕ → EqId
 equation_id number = record { 0 = number }

@@ -17,16 +17,8 @@ play_number program flows events OutOfMemory about = inr (inr (inr (inr (inr (in
 
 -- a refusal of the event file is none for nodes that do not suffice
 no_budget : (events : List ℕ) (r : Refusal) → IsAboutEvents events r → status_of r ≡ 8 → ⊥
-no_budget events (Missing n) about eight = omega (arith, eight)
-no_budget events (ReadFault n) about eight = omega (arith, eight)
-no_budget events LongProgram about eight = omega (arith, eight)
-no_budget events (Program line) about eight = omega (arith, eight)
 no_budget events (Budget nodes) about eight = about
-no_budget events TooManyItems about eight = omega (arith, eight)
-no_budget events (LongFile n) about eight = omega (arith, eight)
-no_budget events (Data line) about eight = omega (arith, eight)
-no_budget events LongImage about eight = omega (arith, eight)
-no_budget events OutOfMemory about eight = omega (arith, eight)
+no_budget events other about eight = omega (arith, eight)
 
 -- no refusal is the end of a run
 ended_one : (n : ℕ) → IsEnded n → (m : ℕ) → n ≡ m → (m ≡ 0 → ⊥) → (m ≡ 3 → ⊥) → ⊥

@@ -1,5 +1,5 @@
 -- The plans of a kernel have the same states behind the same events: they differ in the references of guards alone.
-use Rattle.sig_play_command.proofs.Common.{◌≡◌, ◌∙◌, ℕ, ℤ, List, [], ◌∷◌, Bool, length, replicate, refl, sym, ap, arith, Option, None, Some, fold, nat_lt, pos, slice_get, unwrap_or, if◌then◌else◌, SigId, run_of, Ref, Kernel, Actor, code_of, ended_at, guard_holds, moved_on, no_code, opening_actor, position_of, slot_holds, truths_of, Core, Given, acted, after, looked, opening, stepped, turned, with_actor, word_before, Faults, Gives, operated, outcome, outcome_by, AtLimit, Commits, Fails, Goes, Puts, Stopped, Takes, Turn, carried, item_of, reaction_in, received, turn, turn_at, turn_by, turn_of_op, turn_with, Event, Act, Look, AreAlike, CodeView, Operation, operation_in, operations_in, IsAccepted, PlanView, Slot, Step, StepKind, Do, Send, Receive, Report, Collect, Commit, Op, OpKind, Read, Compute, Left, Right, DelayRead, Store, same_Some, codes_alike, same_actors, same_conditions, same_links, same_operations, none-some, slice_get_within, get_map, map_get, some_at}
+use Rattle.sig_play_command.proofs.Common.{◌≡◌, ◌∙◌, ℕ, ℤ, List, [], ◌∷◌, Bool, length, replicate, refl, sym, ap, arith, Option, None, Some, fold, nat_lt, pos, slice_get, unwrap_or, if◌then◌else◌, SigId, run_of, Ref, Kernel, Actor, code_of, ended_at, guard_holds, moved_on, no_code, opening_actor, position_of, slot_holds, truths_of, Core, Given, acted, after, looked, opening, stepped, turned, with_actor, word_before, Faults, Gives, operated, outcome, outcome_by, AtLimit, Commits, Fails, Goes, Puts, Stopped, Takes, Turn, carried, item_of, reaction_in, received, turn, turn_at, turn_by, turn_of_op, turn_with, Event, Act, Look, AreAlike, CodeView, Operation, operation_in, operations_in, IsAccepted, PlanView, Slot, Step, StepKind, Do, Send, Receive, Report, Collect, Commit, Op, OpKind, Read, same_Some, codes_alike, same_actors, same_conditions, same_links, same_operations, none-some, slice_get_within, get_map, map_get, some_at}
 use Rattle.sig_model.specs.Operating.{Outcome}
 
 -- ---- the reference of an operation's guard is not looked at
@@ -10,11 +10,7 @@ module _ (plan : PlanView) (flows : List (List ℤ)) (code : CodeView) (actor : 
 
   outcome_kept : (kind : OpKind) → outcome_by plan.kernel flows actor other kind ≡ outcome_by plan.kernel flows actor op kind
   outcome_kept (Read x) = refl
-  outcome_kept Compute = refl
-  outcome_kept Left = refl
-  outcome_kept Right = refl
-  outcome_kept DelayRead = refl
-  outcome_kept (Store e) = refl
+  outcome_kept other = refl
 
   turn_kept : (o : Outcome) → turn_with plan code actor other o ≡ turn_with plan code actor op o
   turn_kept (Gives v) = refl
@@ -159,12 +155,7 @@ module _ (p q : PlanView) (one : IsAccepted p) (other : IsAccepted q) (kernels :
 
     turned_same : (k : ℕ) (actor : Actor) (t : Turn) (m : Core) → turned given k actor t m ≡ turned given_other k actor t m
     turned_same k actor Stopped m = refl
-    turned_same k actor AtLimit m = refl
-    turned_same k actor (Fails place) m = refl
-    turned_same k actor (Goes next) m = refl
-    turned_same k actor (Commits reaction next) m = refl
-    turned_same k actor (Puts j item next) m = refl
-    turned_same k actor (Takes j next) m = refl
+    turned_same k actor other m = refl
 
     acted_same : (k : ℕ) (m : Core) (o : Option Actor) → acted given k m o ≡ acted given_other k m o
     acted_same k m None = refl

@@ -1,17 +1,9 @@
 //! The parts of an accepted plan.
 
 ghost use Rattle.std.specs.Prelude.{◌≡◌, ◌<◌, ◌-◌, ◌^◌};
-ghost use Rattle.sig_play_command.specs.Prelude.{length, IsAccepted};
+ghost use Rattle.sig_play_command.specs.Prelude.{length};
 
 use sig_plan::Plan;
-
-/// A law: each plan is an accepted one.
-pub(crate) fn plans_are_accepted(plan: &Plan)
-    ensures { IsAccepted plan.now }
-{
-    // What holds of every plan is known where its fields are read.
-    let _kernel = &plan.kernel;
-}
 
 /// The number of the collector, which is the last actor of a plan.
 pub(crate) fn collector_of(plan: &Plan) -> u32

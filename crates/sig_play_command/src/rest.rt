@@ -4,10 +4,11 @@ ghost use Rattle.std.specs.Prelude.{◌≡◌, ◌≤◌};
 ghost use Rattle.sig_play_command.specs.Prelude.{IfOk, OnErr, OnOk, Core as ModelCore, IsCore, IsEndOf, Rose, Shows, TookPrefix, TookRest};
 ghost use Rattle.sig_play_command.specs.inner.Standing.{IsPlay, committed_in};
 
-use crate::plans::{collector_of, plans_are_accepted};
+use crate::plans::collector_of;
 use crate::play::Play;
 use sig_interleaving::Core;
 use sig_plan::{Ended, Plan};
+use sig_step::plans_are_accepted;
 use sig_text::{Sink, WriteFault};
 
 impl<'a> Play<'a> {

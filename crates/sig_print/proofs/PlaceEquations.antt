@@ -22,11 +22,10 @@ place_constants constants new (inr h) =
 
 -- the one name of a left side
 one_name : (names : List Name) (n : Name) → map unplaced_name names ≡ n ∷ [] → unplaced_name n ≡ n
-one_name [] n e = cc
 one_name (m ∷ []) n e =
     let first : unplaced_name m ≡ n = cc in
     ap unplaced_name (sym first) ∙ first
-one_name (m ∷ k ∷ names) n e = cc
+one_name _ n e = cc
 
 module _ (limits : Limits) where
   place_left : (depth : ℕ) (names : List Name) (new : List Leaf) → IsLeft limits depth (map unplaced_name names) (unplaced_leaves new)
@@ -77,14 +76,11 @@ module _ (limits : Limits) where
 
   clock_from : (depth : ℕ) (x y : Expression) (rest others : List Expression) (new : List Leaf) → map unplaced_expression others ≡ x ∷ y ∷ rest
       → Separated (IsExpression limits depth) (mark (codes "^=")) others new → MayHave limits (sum_by operators others) → IsClockEquation limits depth others new
-  clock_from depth x y rest [] new e h few = cc
-  clock_from depth x y rest (a ∷ []) new e h few = cc
   clock_from depth x y rest (a ∷ b ∷ others) new e h few = (h, few)
+  clock_from depth x y rest _ new e h few = cc
 
   place_clock : (depth : ℕ) (operands : List Expression) (new : List Leaf) → IsClockEquation limits depth (map unplaced_expression operands) (unplaced_leaves new)
       → (body : Equations) × (unplaced_equations body ≡ Equal (map unplaced_expression operands)) × IsBody limits body depth new
-  place_clock depth [] new h = absurd h
-  place_clock depth (e ∷ []) new h = absurd h
   place_clock depth (e ∷ f ∷ others) new (h, few) =
       let r = place_separated (IsExpression limits depth) unplaced_expression (place_expression limits default_level depth) (mark (codes "^=")) (e ∷ f ∷ others) new h in (
         Equal r.0,
@@ -92,6 +88,7 @@ module _ (limits : Limits) where
         clock_from depth (unplaced_expression e) (unplaced_expression f) (map unplaced_expression others) r.0 new r.1 r.2
             (subst (MayHave limits) (sym (ap (sum_by operators) r.1) ∙ operators_all r.0) few),
       )
+  place_clock depth _ new h = absurd h
 
   mutual
     pub place_body : (body : Equations) (depth : ℕ) (new : List Leaf) → IsBody limits (unplaced_equations body) depth (unplaced_leaves new)

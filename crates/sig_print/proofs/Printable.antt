@@ -1,8 +1,8 @@
 -- Words that are printable, and leaves whose terminals are.
-use Rattle.sig_print.proofs.Common.{◌≡◌, ℕ, ◌≤◌, ◌<◌, ◌^◌, ◌++◌, List, [], ◌∷◌, true, false, refl, sym, subst, codes, lit<, lit≤, length, get_or, arith, if◌then◌else◌, nat_lt, is_ascii_digit, IsInRange, nat_tests, decimal_nonempty, digits_decimal, digits_value-decimal, get_or_default, All-cons, All-nil, numerals_by_value, tells_by_index, AllByRecursion, AllPass, Kind, Integer, Boolean, Event, is_label_byte, IsMark, IsWord, greatest_number, Spaced, IsPrintable, Spells, Word, Mark, UnOp, Not, Neg, UnaryWhen, Clock, BinOp, Default, When, Plus, Meet, Less, Or, Xor, And, Eq, Ne, Lt, Le, Gt, Ge, Add, Sub, Mul, Div, Mod, Terminal, word, number, Leaf, fitted, after_blank, on_new_line, mark as mark_of, reserved, number_of, label as label_of, truth, kind_word, unary_word, binary_word, one}
+use Rattle.sig_print.proofs.Common.{◌≡◌, ℕ, ◌≤◌, ◌<◌, ◌^◌, ◌++◌, List, [], ◌∷◌, true, false, refl, sym, subst, codes, lit<, lit≤, length, get_or, arith, if◌then◌else◌, nat_lt, is_ascii_digit, IsInRange, nat_tests, decimal_nonempty, digits_decimal, digits_value-decimal, get_or_default, All-cons, All-nil, numerals_by_value, tells_by_index, AllByRecursion, AllPass, Kind, Integer, Boolean, Event, is_label_byte, IsMark, IsWord, greatest_number, Spaced, IsPrintable, Spells, Word, Mark, UnOp, Not, Neg, UnaryWhen, Clock, BinOp, Default, When, Plus, Meet, Less, Or, Xor, And, Eq, Ne, Lt, Le, Gt, Ge, Add, Sub, Mul, Div, Mod, Terminal, number, Leaf, fitted, after_blank, on_new_line, mark as mark_of, reserved, number_of, label as label_of, truth, kind_word, unary_word, binary_word, one}
 use Rattle.std.proofs.Common.{Bool}
 use Rattle.sig_lex.specs.declared.token.TokenKind.TheVariants.{Name}
-use Rattle.sig_tree.specs.Terminals.{name, label, mark}
+use Rattle.sig_tree.specs.Terminals.{name, label}
 
 -- all the words are printable
 abbrev pub ArePrintable : List Spaced → Type 0
@@ -15,10 +15,9 @@ both (s ∷ a) b (here, rest) second = (here, both a b rest second)
 -- the terminal is spelled as a token
 abbrev pub IsGood : Terminal → Type 0
 IsGood (name text) = Spells Name text
-IsGood (word text) = Unit {0}
 IsGood (number value) = value ≤ greatest_number
 IsGood (label text) = AllPass is_label_byte text
-IsGood (mark text) = Unit {0}
+IsGood _ = Unit {0}
 
 abbrev pub AreGood : List Leaf → Type 0
 AreGood [] = Unit {0}

@@ -67,13 +67,12 @@ module _ (limits : Limits) where
 
   clock_read : (depth : ℕ) (operands : List Expression) (ls : List Leaf) → IsClockEquation limits depth operands ls
       → IsClockEquation limits depth (map unplaced_expression operands) (spoken (separated (expression_words default_level) (mark (codes "^=")) operands))
-  clock_read depth [] ls h = absurd h
-  clock_read depth (e ∷ []) ls h = absurd h
   clock_read depth (e ∷ f ∷ others) ls (h, few) = (
     separated_read (IsExpression limits depth) (IsExpression limits depth) unplaced_expression (expression_words default_level) (expression_read limits default_level depth)
         (mark_terminal (codes "^=")) (mark (codes "^=")) (λ ws. refl) (e ∷ f ∷ others) ls h,
     λ yes. let n = few yes in omega (arith, operators_all (e ∷ f ∷ others)),
   )
+  clock_read depth _ ls h = absurd h
 
   mutual
     pub body_read : (body : Equations) (depth : ℕ) (ls : List Leaf) → IsBody limits body depth ls → IsBody limits (unplaced_equations body) depth (spoken (body_words body))

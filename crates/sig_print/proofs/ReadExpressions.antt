@@ -1,6 +1,6 @@
 -- The leaves of canonical words, their places left out, are those of the tree, its places left out:
 -- lists, constants and expressions.
-use Rattle.sig_print.proofs.Common.{◌≡◌, ℕ, zero, suc, ◌+◌, ◌<◌, ◌≤◌, ◌++◌, List, [], ◌∷◌, true, false, refl, sym, ap, ◌∙◌, subst, codes, Option, None, Some, inl, inr, ◌⊎◌, map, arith, ℤ, pos, neg_ℤ, nat_lt, if◌then◌else◌, option_to_list, option_map, flat_map, nat_tests, flat_map-append, Kind, Integer, Boolean, Event, TokenKind, Spaced, Constant, Int, Bool as BoolConstant, Param, UnOp, Not, Neg, UnaryWhen, Clock, BinOp, Default, When, Plus, Meet, Less, Or, Xor, And, Eq, Ne, Lt, Le, Gt, Ge, Add, Sub, Mul, Div, Mod, Expression, Named, Number, Truth, Unary, Binary, Delay, Cell, Terminal, Leaf, leaf, number, mark_terminal, word as word_terminal, truth_word, unary_terminal, binary_terminal, label_terminal, kind_terminal, terminal_of, default_level, mixed_level, delay_level, primary_level, operand_level, left_level, right_level, level_of, Limits, MayStandInside, operators, Each, Further, Separated, Listed, Between, IsConstant, IsInit, IsOptionalInit, Enclosed, Stands, IsBare, IsAtLevel, no_place, unplaced_constant, unplaced_init, unplaced_expression, further, separated, integer_words, constant_words, init_words, optional_init_words, bare_words, expression_words, mark, reserved, one, truth, unary_word, binary_word, kind_word, label}
+use Rattle.sig_print.proofs.Common.{◌≡◌, ℕ, zero, suc, ◌+◌, ◌<◌, ◌≤◌, ◌++◌, List, [], ◌∷◌, true, false, refl, sym, ap, ◌∙◌, subst, codes, Option, None, Some, inl, inr, ◌⊎◌, map, arith, ℤ, pos, neg_ℤ, nat_lt, if◌then◌else◌, option_to_list, option_map, flat_map, nat_tests, flat_map-append, Kind, Integer, TokenKind, Spaced, Constant, Int, Bool as BoolConstant, Param, UnOp, Not, BinOp, Default, Expression, Named, Truth, Unary, Binary, Delay, Cell, Terminal, Leaf, leaf, number, mark_terminal, word as word_terminal, truth_word, unary_terminal, binary_terminal, label_terminal, kind_terminal, terminal_of, default_level, mixed_level, delay_level, primary_level, operand_level, left_level, right_level, level_of, Limits, MayStandInside, operators, Each, Further, Separated, Listed, Between, IsConstant, IsInit, IsOptionalInit, Enclosed, Stands, IsBare, IsAtLevel, no_place, unplaced_constant, unplaced_init, unplaced_expression, further, separated, integer_words, constant_words, init_words, optional_init_words, bare_words, expression_words, mark, reserved, one, truth, unary_word, binary_word, kind_word, label}
 use Rattle.std.proofs.Common.{Bool}
 use Rattle.sig_print.proofs.SpelledProcesses.{inside_label}
 
@@ -21,30 +21,11 @@ Says s terminal = (words : List Spaced) → spoken (s ∷ words) ≡ leaf termin
 
 pub unary_says : (op : UnOp) → Says (unary_word op) (unary_terminal op)
 unary_says Not words = refl
-unary_says Neg words = refl
-unary_says UnaryWhen words = refl
-unary_says Clock words = refl
+unary_says _ words = refl
 
 pub binary_says : (op : BinOp) → Says (binary_word op) (binary_terminal op)
 binary_says Default words = refl
-binary_says When words = refl
-binary_says Plus words = refl
-binary_says Meet words = refl
-binary_says Less words = refl
-binary_says Or words = refl
-binary_says Xor words = refl
-binary_says And words = refl
-binary_says Eq words = refl
-binary_says Ne words = refl
-binary_says Lt words = refl
-binary_says Le words = refl
-binary_says Gt words = refl
-binary_says Ge words = refl
-binary_says Add words = refl
-binary_says Sub words = refl
-binary_says Mul words = refl
-binary_says Div words = refl
-binary_says Mod words = refl
+binary_says _ words = refl
 
 pub truth_says : (holds : Bool) → Says (truth holds) (truth_word holds)
 truth_says true words = refl
@@ -52,8 +33,7 @@ truth_says false words = refl
 
 pub kind_says : (kind : Kind) → Says (kind_word kind) (kind_terminal kind)
 kind_says Integer words = refl
-kind_says Boolean words = refl
-kind_says Event words = refl
+kind_says _ words = refl
 
 pub label_says : (text : List ℕ) → Says (label text) (label_terminal text)
 label_says text words = ap (λ t. leaf (label_terminal t) no_place ∷ spoken words) (inside_label text)
@@ -114,21 +94,14 @@ optional_read (Some constant) ls h = init_read constant ls h
 
 pub level_unplaced : (e : Expression) → level_of (unplaced_expression e) ≡ level_of e
 level_unplaced (Named n) = refl
-level_unplaced (Number value at) = refl
-level_unplaced (Truth holds at) = refl
-level_unplaced (Unary op operand at) = refl
-level_unplaced (Binary op left right at) = refl
-level_unplaced (Delay operand init at) = refl
-level_unplaced (Cell operand held init at) = refl
+level_unplaced _ = refl
 
 pub operators_unplaced : (e : Expression) → operators (unplaced_expression e) ≡ operators e
-operators_unplaced (Named n) = refl
-operators_unplaced (Number value at) = refl
-operators_unplaced (Truth holds at) = refl
 operators_unplaced (Unary op operand at) = ap (λ n. 1 + n) (operators_unplaced operand)
 operators_unplaced (Binary op left right at) = omega (arith, operators_unplaced left, operators_unplaced right)
 operators_unplaced (Delay operand init at) = ap (λ n. 1 + n) (operators_unplaced operand)
 operators_unplaced (Cell operand held init at) = omega (arith, operators_unplaced operand, operators_unplaced held)
+operators_unplaced _ = refl
 
 module _ (limits : Limits) where
   may_less : (depth d : ℕ) → depth ≤ d → MayStandInside limits d → MayStandInside limits depth
@@ -167,8 +140,6 @@ module _ (limits : Limits) where
       (λ n small. bare n o.0 o.1 small o.4) (nat_lt (level_of e) wanted) refl)
 
   bare_read : (e : Expression) (depth d : ℕ) (ls : List Leaf) → depth ≤ d → IsBare limits e d ls → IsBare limits (unplaced_expression e) depth (spoken (bare_words e))
-  bare_read (Named n) depth d ls le h = refl
-  bare_read (Number value at) depth d ls le h = refl
   bare_read (Truth holds at) depth d ls le h = truth_says holds []
   bare_read (Unary op operand at) depth d ls le (may, rest, e, h) = (
     may_less depth d le may,
@@ -203,6 +174,7 @@ module _ (limits : Limits) where
     stands_read held (λ n k l small is. bare_read held n k l small is) primary_level depth d middle le k,
     init_read init back i,
   )
+  bare_read _ depth d ls le h = refl
 
   pub expression_read : (wanted depth : ℕ) (e : Expression) (ls : List Leaf) → IsAtLevel limits wanted depth e ls → IsAtLevel limits wanted depth (unplaced_expression e) (spoken (expression_words wanted e))
   expression_read wanted depth e ls h = stands_read e (λ n k l small is. bare_read e n k l small is) wanted depth depth ls (omega arith) h

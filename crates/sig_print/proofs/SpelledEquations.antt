@@ -46,10 +46,9 @@ module _ (limits : Limits) where
       )
 
   operands_good : (depth : ℕ) (operands : List Expression) (ls : List Leaf) → AreGood ls → IsClockEquation limits depth operands ls → ArePrintable (separated (expression_words default_level) (mark (codes "^=")) operands)
-  operands_good depth [] ls are h = absurd h
-  operands_good depth (e ∷ []) ls are h = absurd h
   operands_good depth (e ∷ f ∷ others) ls are h =
       separated_good (IsExpression limits depth) (expression_words default_level) (expression_good limits default_level depth) (mark_terminal (codes "^=")) (mark (codes "^=")) same (e ∷ f ∷ others) ls are h.0
+  operands_good depth _ ls are h = absurd h
 
   mutual
     pub body_good : (body : Equations) (depth : ℕ) (ls : List Leaf) → AreGood ls → IsBody limits body depth ls → ArePrintable (body_words body)

@@ -1,5 +1,5 @@
 -- The words of declarations, pragmas and processes that the grammar has for spelled leaves are printable.
-use Rattle.sig_print.proofs.Common.{◌≡◌, ℕ, suc, ◌-◌, ◌++◌, List, [], ◌∷◌, refl, sym, ap, ◌∙◌, subst, codes, inl, inr, length, take, arith, length-append, ◌≢◌, All, option_to_list, option_map, slice_range, flat_map, AllPass, is_label_byte, take_at, flat_map-append, All-head, All-tail, Span, Spaced, Spells, text_of, Token, TokenKind, Word, Label, Mark, Last, Item, Declared, Placement, Heading, ProcessModel, Modelled, ProcessModels, no_model, more_models, Leaf, leaf, mark_terminal, terminal_of, leaves_of, Limits, Each, Separated, IsName, IsPlainItem, IsItem, IsGroup, IsParam, AreGroups, AreParams, IsInterface, IsPlacement, ArePragmas, IsLocalGroup, IsWhere, IsModel, AreLocals, names_words, optional_init_words, item_words, group_words, groups_words, params_words, pragma_words, pragmas_words, heading_words, local_words, where_words, body_words, process_words, processes_words, mark}
+use Rattle.sig_print.proofs.Common.{◌≡◌, ℕ, suc, ◌-◌, ◌++◌, List, [], ◌∷◌, refl, sym, ap, ◌∙◌, subst, codes, inl, inr, length, take, arith, length-append, ◌≢◌, All, option_to_list, option_map, slice_range, flat_map, AllPass, is_label_byte, take_at, flat_map-append, All-head, All-tail, Span, Spaced, Spells, text_of, Token, TokenKind, Label, Last, Item, Declared, Placement, Heading, ProcessModel, Modelled, ProcessModels, no_model, more_models, Leaf, leaf, mark_terminal, terminal_of, leaves_of, Limits, Each, Separated, IsName, IsPlainItem, IsItem, IsGroup, IsParam, AreGroups, AreParams, IsInterface, IsPlacement, ArePragmas, IsLocalGroup, IsWhere, IsModel, AreLocals, names_words, optional_init_words, item_words, group_words, groups_words, params_words, pragma_words, pragmas_words, heading_words, local_words, where_words, body_words, process_words, processes_words, mark}
 use Rattle.sig_lex.specs.declared.token.TokenKind.TheVariants.{Name, Number}
 use Rattle.sig_print.proofs.Printable.{ArePrintable, both, AreGood, front_good, back_good, name_good, label_good, kind_good, opens, closes, opens_brace, closes_brace, comma, semicolon, asks, answers, equals, process_good, where_good, first_pragmas, last_pragmas, end_good}
 use Rattle.sig_print.proofs.SpelledExpressions.{each_good, separated_good, inside_good, optional_good}
@@ -143,13 +143,12 @@ inside_label inside =
 at_token : (kind : TokenKind) (bytes : List ℕ) (at : Span) (rest : List Leaf) → (kind ≢ Last → Spells kind bytes) → AreGood rest
     → AreGood (option_to_list (option_map (λ terminal. leaf terminal at) (terminal_of kind bytes)) ++ rest)
 at_token Name bytes at rest spelled good = (spelled (λ e. cc), good)
-at_token Word bytes at rest spelled good = (tt, good)
 at_token (Number value) bytes at rest spelled good = ((spelled (λ e. cc)).not_above, good)
 at_token Label bytes at rest spelled good =
     let l = spelled (λ e. cc) in
     (subst (λ b. AllPass is_label_byte (slice_range b 1 (length b - 1))) (sym l.quoted) (subst (AllPass is_label_byte) (sym (inside_label l.inside)) l.label_bytes), good)
-at_token Mark bytes at rest spelled good = (tt, good)
 at_token Last bytes at rest spelled good = good
+at_token _ bytes at rest spelled good = (tt, good)
 
 pub leaves_good : (text : List ℕ) (tokens : List Token) → All (λ t. t.kind ≢ Last → Spells t.kind (text_of text t)) tokens → AreGood (leaves_of text tokens)
 leaves_good text [] all = tt

@@ -1,9 +1,5 @@
 -- Calls that add nodes, one after another, and the share of a triangular kernel's system.
-use Rattle.sig_rel.proofs.Common.{◌≡◌, ◌≤◌, ◌<◌, ◌+◌, ◌-◌, ◌*◌, ◌^◌, ℕ, zero, suc, List, [], ◌∷◌, None, Some, Result, Ok, Err, IfErr, length, sym, subst, arith, IsErrAnd, range_with_len, mul-le-mul_left, mul-le-mul_right, pow-suc, length-range_with_len, contains_head, IsStore, Keeps, StoreView, allowance, IsRefused, Shares, DdAnswer, Budget as StoreBudget, OutOfMemory as NoMemory, Keeps-itself, Keeps-trans, Kernel, conditions_of, IsFromStore, Adds, KeepsToTriangularShare, Makes, triangular_share_of, no_ref, RelAnswer}
-use Rattle.sig_rel.proofs.ShareLemmas.{refused_as}
-
-Done : Type 0
-Done = Result (Unit {0}) DdAnswer
+use Rattle.sig_rel.proofs.Common.{◌≡◌, ◌≤◌, ◌<◌, ◌+◌, ◌-◌, ◌*◌, ◌^◌, ℕ, zero, suc, List, [], ◌∷◌, None, Some, Result, Ok, Err, IfErr, length, sym, subst, arith, IsErrAnd, range_with_len, mul-le-mul_left, mul-le-mul_right, pow-suc, length-range_with_len, contains_head, IsStore, Keeps, StoreView, allowance, IsRefused, Shares, DdAnswer, Budget as StoreBudget, OutOfMemory as NoMemory, Keeps-itself, Keeps-trans, Kernel, conditions_of, Adds, Makes, triangular_share_of, no_ref}
 
 -- a refusal of later calls is one of all of them
 pub refused_later : (r s t : StoreView) (n m : ℕ) → length s.nodes + n ≤ length r.nodes + m → (why : DdAnswer) → IsRefused s t n why → IsRefused r t m why
@@ -73,14 +69,3 @@ within_triangular_share kernel k s count steps =
     let few = below_power k in
     subst (λ n. k + 3 * s * allowance (range_with_len 0 k) ≤ 2 ^ n * 16 * (length kernel.equations + 1)) count
     (subst (λ n. k + 3 * s * (2 ^ n - 1) ≤ 2 ^ k * 16 * (length kernel.equations + 1)) (sym long) (within k s (length kernel.equations) (2 ^ k) (omega (arith, few)) steps))
-
-module _ {T : Type 0} (kernel : Kernel) (old new : StoreView) where
-  pub kept_to_triangular : (result : T) → Adds (triangular_share_of kernel) old new (Ok tt) → KeepsToTriangularShare kernel old new (let r : Result T RelAnswer = Ok result in r)
-  kept_to_triangular result adds = record { added = λ is. adds.added; refused = λ is. tt }
-
-  pub refused_for_triangular : (why : DdAnswer) (result : Result T RelAnswer) → IsErrAnd result (IsFromStore why) → Adds (triangular_share_of kernel) old new (Err why) → KeepsToTriangularShare kernel old new result
-  refused_for_triangular why (Ok x) from adds = absurd from
-  refused_for_triangular why (Err answer) from adds = record {
-    added = λ is. adds.added;
-    refused = λ is. refused_as old new (triangular_share_of kernel) (triangular_share_of kernel) (omega arith) why answer from adds.refused;
-  }

@@ -1,6 +1,5 @@
 -- Truths of the unknowns that are a given reaction.
-use Rattle.sig_rel.proofs.Common.{◌≡◌, ◌<◌, ◌+◌, ◌||◌, inl, inr, ℕ, zero, suc, Bool, true, false, List, [], ◌∷◌, length, get_or, map, eqb, Option, None, Some, refl, sym, ap, ◌∙◌, subst, arith, eq-eqb, if◌then◌else◌, ◌&&◌, is_some, slice_get, range_with_len, and_parts, eqb-true, false≢true, ext_get_or, get_or-map-range_with_len, get_or_from_slice_get, slice_get-get_or, slice_get_within, Kind, Integer, Boolean, Signal, kind_of, Kernel, conditions_of, IsReaction, Reaction, Status, are_statuses, is_boolean_kind, is_present, is_status_of, status_at, truth_of_status, present_together, truth_of, AreUnknowns, IsUsed, reaction_in, status_in, truth_in}
-use Rattle.sig_base.specs.declared.ids.Kind.TheVariants.{Event}
+use Rattle.sig_rel.proofs.Common.{◌≡◌, ◌<◌, ◌+◌, ◌||◌, inl, inr, ℕ, zero, suc, Bool, true, false, List, [], ◌∷◌, length, get_or, map, eqb, Option, None, Some, refl, sym, ap, ◌∙◌, subst, arith, eq-eqb, if◌then◌else◌, ◌&&◌, is_some, slice_get, range_with_len, and_parts, eqb-true, false≢true, ext_get_or, get_or-map-range_with_len, get_or_from_slice_get, slice_get-get_or, slice_get_within, Kind, Boolean, Signal, kind_of, Kernel, conditions_of, IsReaction, Reaction, Status, are_statuses, is_boolean_kind, is_present, is_status_of, status_at, truth_of_status, present_together, truth_of, AreUnknowns, IsUsed, reaction_in, status_in, truth_in, some_at}
 use Rattle.sig_rel.proofs.Reactions.{status_of_unknowns}
 
 abbrev is_unknown : ℕ → Option ℕ → Bool
@@ -9,10 +8,8 @@ is_unknown v (Some w) = eqb w v
 
 -- whether a signal that is present has this presence, or one that is true this truth
 abbrev chosen : ℕ → List ℕ → List (Option ℕ) → Reaction → Bool
-chosen v [] truth reaction = false
-chosen v (p ∷ present) [] reaction = false
-chosen v (p ∷ present) (t ∷ truth) [] = false
 chosen v (p ∷ present) (t ∷ truth) (s ∷ reaction) = (eqb p v && is_some s) || ((is_unknown v t && truth_of_status s) || chosen v present truth reaction)
+chosen v _ _ _ = false
 
 neither : (a b c : Bool) → a ≡ false → b ≡ false → c ≡ false → (a || (b || c)) ≡ false
 neither a b c ea eb ec = (λ j. ea j || (eb j || ec j))
@@ -25,9 +22,8 @@ second_true true b c e = refl
 second_true false b c e = ap (λ x. x || c) e
 
 third_true : (a b c : Bool) → c ≡ true → (a || (b || c)) ≡ true
-third_true true b c e = refl
-third_true false true c e = refl
 third_true false false c e = e
+third_true _ _ c e = refl
 
 presence_false : (p v : ℕ) (s : Status) → (p ≡ v → is_some s ≡ false) → (eqb p v && is_some s) ≡ false
 presence_false p v s only = by (eqb p v) refl where
@@ -45,13 +41,11 @@ truth_false (Some w) v s only = by (eqb w v) refl where
 chosen_false : (v : ℕ) (present : List ℕ) (truth : List (Option ℕ)) (reaction : Reaction)
     → ((k : ℕ) → slice_get present k ≡ Some v → is_present reaction k ≡ false) → ((k : ℕ) → slice_get truth k ≡ Some (Some v) → truth_of_status (status_at reaction k) ≡ false)
     → chosen v present truth reaction ≡ false
-chosen_false v [] truth reaction presences truths = refl
-chosen_false v (p ∷ present) [] reaction presences truths = refl
-chosen_false v (p ∷ present) (t ∷ truth) [] presences truths = refl
 chosen_false v (p ∷ present) (t ∷ truth) (s ∷ reaction) presences truths =
     neither (eqb p v && is_some s) (is_unknown v t && truth_of_status s) (chosen v present truth reaction)
     (presence_false p v s (λ e. presences 0 (ap Some e))) (truth_false t v s (λ e. truths 0 (ap Some e)))
     (chosen_false v present truth reaction (λ k at. presences (suc k) at) (λ k at. truths (suc k) at))
+chosen_false v _ _ _ presences truths = refl
 
 chosen_present : (v : ℕ) (present : List ℕ) (truth : List (Option ℕ)) (reaction : Reaction) (k : ℕ) → length truth ≡ length present → slice_get present k ≡ Some v → is_present reaction k ≡ true → chosen v present truth reaction ≡ true
 chosen_present v [] truth reaction k count at is = absurd (let no : None ≡ Some v = at in cc)
@@ -65,8 +59,6 @@ chosen_present v (p ∷ present) (t ∷ truth) (s ∷ reaction) (suc k) count at
 
 chosen_true : (v : ℕ) (present : List ℕ) (truth : List (Option ℕ)) (reaction : Reaction) (k : ℕ) → length truth ≡ length present → slice_get truth k ≡ Some (Some v) → truth_of_status (status_at reaction k) ≡ true → chosen v present truth reaction ≡ true
 chosen_true v [] [] reaction k count at is = absurd (let no : None ≡ Some (Some v) = at in cc)
-chosen_true v [] (t ∷ truth) reaction k count at is = absurd (omega (arith, count))
-chosen_true v (p ∷ present) [] reaction k count at is = absurd (omega (arith, count))
 chosen_true v (p ∷ present) (t ∷ truth) [] k count at is = absurd (false≢true is)
 chosen_true v (p ∷ present) (t ∷ truth) (s ∷ reaction) zero count at is =
     let e : t ≡ Some v = cc in
@@ -74,13 +66,13 @@ chosen_true v (p ∷ present) (t ∷ truth) (s ∷ reaction) zero count at is =
     (λ j. (ap (is_unknown v) e ∙ eq-eqb v v refl) j && is j)
 chosen_true v (p ∷ present) (t ∷ truth) (s ∷ reaction) (suc k) count at is =
     third_true (eqb p v && is_some s) (is_unknown v t && truth_of_status s) (chosen v present truth reaction) (chosen_true v present truth reaction k (omega (arith, count)) at is)
+chosen_true v _ _ reaction k count at is = absurd (omega (arith, count))
 
 -- one status for each signal, of its kind
 pub all_statuses : (signals : List Signal) (reaction : Reaction) → are_statuses signals reaction ≡ true → length reaction ≡ length signals
 all_statuses [] [] is = refl
-all_statuses [] (s ∷ reaction) is = absurd (false≢true is)
-all_statuses (signal ∷ signals) [] is = absurd (false≢true is)
 all_statuses (signal ∷ signals) (s ∷ reaction) is = ap suc (all_statuses signals reaction (and_parts (is_status_of signal.kind s) (are_statuses signals reaction) is).1)
+all_statuses _ _ is = absurd (false≢true is)
 
 pub status_fits_at : (signals : List Signal) (reaction : Reaction) (k : ℕ) (signal : Signal) → are_statuses signals reaction ≡ true → slice_get signals k ≡ Some signal → is_status_of signal.kind (status_at reaction k) ≡ true
 status_fits_at [] reaction k signal is at = absurd (let no : None ≡ Some signal = at in cc)
@@ -91,16 +83,9 @@ status_fits_at (x ∷ signals) (s ∷ reaction) zero signal is at =
 status_fits_at (x ∷ signals) (s ∷ reaction) (suc k) signal is at = status_fits_at signals reaction k signal (and_parts (is_status_of x.kind s) (are_statuses signals reaction) is).1 at
 
 pub true_unless_boolean : (kind : Kind) (b : Bool) → is_status_of kind (Some b) ≡ true → (is_boolean_kind (Some kind) ≡ true → ⊥) → b ≡ true
-true_unless_boolean Integer true fits other = refl
-true_unless_boolean Integer false fits other = absurd (false≢true fits)
 true_unless_boolean Boolean b fits other = absurd (other refl)
-true_unless_boolean Event true fits other = refl
-true_unless_boolean Event false fits other = absurd (false≢true fits)
-
-pub found : {X : Type 0} (xs : List X) (k : ℕ) → k < length xs → (x : X) × (slice_get xs k ≡ Some x)
-found [] k lt = absurd (omega (arith, lt))
-found (x ∷ xs) zero lt = (x, refl)
-found (x ∷ xs) (suc k) lt = found xs k (omega (arith, lt))
+true_unless_boolean _ true fits other = refl
+true_unless_boolean _ false fits other = absurd (false≢true fits)
 
 pub length_in : (truths : List Bool) (present : List ℕ) (truth : List (Option ℕ)) → length truth ≡ length present → length (reaction_in truths present truth) ≡ length present
 length_in truths [] truth count = refl
@@ -145,7 +130,7 @@ module _ (kernel : Kernel) (count : ℕ) (present : List ℕ) (truth : List (Opt
 
   pub choice_of_truth : (s : ℕ) (t : Option ℕ) (b : Bool) → s < length kernel.signals → slice_get truth s ≡ Some t → status_at reaction s ≡ Some b → truth_in choices t ≡ b
   choice_of_truth s None b lt at status =
-      let signal = found kernel.signals s lt in
+      let signal = some_at kernel.signals s lt in
       let fits = status_fits_at kernel.signals reaction s signal.0 is.kinds signal.1 in
       sym (true_unless_boolean signal.0.kind b (ap (is_status_of signal.0.kind) (sym status) ∙ fits)
       (λ boolean.

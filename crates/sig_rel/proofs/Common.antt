@@ -1,7 +1,7 @@
 -- What the proofs of this crate cite of std, of the crates below and of its own specs, passed on from one place.
 pub use Rattle.std.proofs.Common.{Bool, Contains, Err, IfErr, IfOk, IsErrAnd, IsTrue, List, MatchOption, None, Ok, Option, Result, Some, [], ap, arith, below_more, cond, count_by, eq-eqb, eqb, eqb-true, ext_get_or, false, filter, get_or, get_or-set_other, get_or-set_same, if◌then◌else◌, inl, inr, is_some, length, length-set, lt-ltb, ltb-true, map, mul-le-mul_left, mul-le-mul_right, nat_lt, not, option_map, position, pow-suc, pow_mono, pow_pos, refl, replicate, set, slice_get, slice_index, slice_index_or, slice_set, subst, suc, sym, take, take_all, true, zero, ℕ, ℤ, ◌&&◌, ◌*◌, ◌++◌, ◌+◌, ◌-◌, ◌<◌, ◌==◌, ◌^◌, ◌||◌, ◌∙◌, ◌∷◌, ◌≡◌, ◌≢◌, ◌≤◌, ◌⊎◌}
 pub use Rattle.std.proofs.Math.Nat.{pow-le-pow_right}
-pub use Rattle.std.proofs.lemmas.Bool.{and_from, cases_Bool, cond-true, not-true, or_cases, or_left, or_parts, or_right}
+pub use Rattle.std.proofs.lemmas.Bool.{and_from, cases_Bool, cond-true, not-true, or_cases, or_left, or_parts, or_right, or_from}
 pub use Rattle.std.proofs.lemmas.List.{get_or-replicate, get_or_past, length-replicate, map_push, take-append-le, take_more}
 pub use Rattle.std.proofs.lemmas.List.Folds.{list_all_more}
 pub use Rattle.std.proofs.lemmas.List.FromFn.{get_or-range_with_len, length-range_with_len, map-range_with_len_more}
@@ -29,9 +29,9 @@ pub use Rattle.sig_dd.proofs.Trees.{truth_of-with_other}
 pub use Rattle.sig_clock.specs.Conditions.{conditions_of, freed, is_number}
 pub use Rattle.sig_clock.specs.Reactions.{compares}
 pub use Rattle.sig_clock.proofs.Common.{Add, AllByRecursion, Allows, AnInteger, AreLeast, Boolean, Const, Default, Delay, Div, Eq, Equation, Event, Form, Fun, FunOp, Ge, Gt, Id, Integer, IsReaction, IsValid, KeepsTo, Kernel, Kind, Le, Lt, Mod, Mul, Ne, Neg, Operand, Reaction, SameClock, Sig, SigId, Signal, Sort, Speaks, Status, Sub, Sync, When, WhenConst, and_parts, are_statuses, constant_truth, false≢true, form_fits, form_within, frees, function_truth, get_or-map-range_with_len, given, has_truth, is_below, is_boolean_kind, is_condition, is_free, is_present, is_signal, is_silent, is_status_of, is_with, joined, kind_at, kind_of, length-map-range_with_len, list_all, list_any, meets, operand_is, operand_truth, operand_within, operands_are, operands_of, or_else, range_with_len, related, same_status, same_truth, signal_id, signals_among, status_at, truth_function, truth_of, truth_of_status, turned, where_present, where_true, with_truth}
-pub use Rattle.sig_lists.proofs.Contained.{at_contained, contains_at, contains_cons, contains_head, contains_later, contains_none}
-pub use Rattle.sig_lists.proofs.Places.{item_at}
-pub use Rattle.sig_lists.proofs.Fronts.{written}
+pub use Rattle.sig_lists.proofs.Contained.{at_contained, contains_at, contains_cons, contains_head, contains_later, contains_none, contains_last}
+pub use Rattle.sig_lists.proofs.Places.{item_at, some_at}
+pub use Rattle.sig_lists.proofs.Fronts.{written, taken_get, get_taken}
 pub use Rattle.sig_clock.proofs.ReactionLemmas.{absent_in_silence, present_together, statuses_are_same, truths_are_same}
 pub use Rattle.sig_rel.specs.Answers.{IsFromStore}
 pub use Rattle.sig_rel.specs.inner.Elements.{IsCut, IsGiven, IsGivenBy, entry_of, signal_of, truths_read}
@@ -67,3 +67,6 @@ pub use Rattle.sig_rel.specs.declared.schedules.Schedule.{Schedule}
 pub use Rattle.sig_rel.specs.declared.schedules.Scheduling.{Scheduling}
 pub use Rattle.sig_rel.specs.declared.statuses.Known.{Known}
 pub use Rattle.sig_rel.specs.declared.substitution.Columns.{Columns}
+pub use Rattle.std.proofs.lemmas.Map.Keys.{any_passes_from_place}
+pub use Rattle.sig_lists.proofs.Ranges.{within_range}
+pub use Rattle.std.proofs.Math.Bool.{or_comm}

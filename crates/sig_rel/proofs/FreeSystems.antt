@@ -1,5 +1,5 @@
 -- Columns that keep to the tables of a triangular kernel are its system.
-use Rattle.sig_rel.proofs.Common.{◌≡◌, ◌<◌, ◌≤◌, inl, inr, ℕ, Bool, true, false, cond, List, [], ◌∷◌, length, map, Option, None, Some, refl, sym, ap, ◌∙◌, subst, arith, Contains, if◌then◌else◌, slice_get, slice_index, count_by, option_map, range_with_len, and_parts, cases_Bool, cases_eq, cases_lt, length-map, length-filter, sum_by-cons, get_or-map-range_with_len, get_or-range_with_len, length-map-range_with_len, length-range_with_len, get_or_from_slice_get, slice_get-map, slice_get_past, slice_get_within, filter, SigId, IsValid, Kernel, Allows, KeepsTo, conditions_of, is_condition, is_free, signal_id, Reaction, Speaks, Status, status_at, truth_of_status, contains_at, truth_of, with_truth, Holds, IsRefOf, Spans, test, truth_of-with_other, Node, Ref, IsUnknownCount, is_boolean, AreValues, has, value_status, IsSystemOf, truth_ref, HoldColumns, SpanColumns, present_at, truth_at, values_at, AreConditions, IsFreeSystem, IsOver, IsSolution, IsSystem, IsVariable, SystemView, proposed, reading, status_read, statuses_read, AreRulesOf, IsTriangle, Element, Rules, Columns}
+use Rattle.sig_rel.proofs.Common.{◌≡◌, ◌<◌, ◌≤◌, inl, inr, ℕ, Bool, true, false, cond, List, [], ◌∷◌, length, map, Option, None, Some, refl, sym, ap, ◌∙◌, subst, arith, if◌then◌else◌, slice_get, slice_index, count_by, option_map, range_with_len, and_parts, cases_Bool, cases_eq, cases_lt, length-map, length-filter, sum_by-cons, get_or-map-range_with_len, get_or-range_with_len, length-map-range_with_len, length-range_with_len, get_or_from_slice_get, slice_get-map, slice_get_past, slice_get_within, filter, SigId, IsValid, Kernel, Allows, KeepsTo, conditions_of, is_condition, is_free, signal_id, Reaction, Speaks, Status, status_at, truth_of_status, contains_at, truth_of, with_truth, Holds, IsRefOf, Spans, test, truth_of-with_other, Node, Ref, IsUnknownCount, is_boolean, AreValues, has, value_status, IsSystemOf, truth_ref, HoldColumns, SpanColumns, present_at, truth_at, values_at, AreConditions, IsFreeSystem, IsOver, IsSolution, IsSystem, IsVariable, SystemView, proposed, reading, status_read, statuses_read, AreRulesOf, IsTriangle, Element, Rules, Columns, within_range}
 use Rattle.sig_rel.proofs.ClassLemmas.{least_of_class}
 use Rattle.sig_rel.proofs.OneReaction.{one_reaction}
 use Rattle.sig_rel.proofs.RuleLemmas.{got_map_range, map_range_got}
@@ -35,11 +35,11 @@ conditions_few kernel count is =
 
 -- ---- what is read
 
-read_maps : (nodes : List Node) (truths : List Bool) (f g : ℕ → Ref) (xs : List ℕ) → statuses_read nodes truths (map f xs) (map g xs) ≡ map (λ s. status_read nodes truths (f s) (g s)) xs
+pub read_maps : (nodes : List Node) (truths : List Bool) (f g : ℕ → Ref) (xs : List ℕ) → statuses_read nodes truths (map f xs) (map g xs) ≡ map (λ s. status_read nodes truths (f s) (g s)) xs
 read_maps nodes truths f g [] = refl
 read_maps nodes truths f g (x ∷ xs) = ap (λ rest. status_read nodes truths (f x) (g x) ∷ rest) (read_maps nodes truths f g xs)
 
-same_where : (p t : Bool) → t ≡ true → (let s : Status = if p then Some p else None in s) ≡ (if p then Some t else None)
+pub same_where : (p t : Bool) → t ≡ true → (let s : Status = if p then Some p else None in s) ≡ (if p then Some t else None)
 same_where true t is = ap Some (sym is)
 same_where false t is = refl
 
@@ -47,18 +47,9 @@ allows_own : (s : Status) → Allows s (truth_of_status s)
 allows_own None = tt
 allows_own (Some b) = refl
 
-allows_if : (p t u : Bool) → t ≡ u → Allows (let s : Status = if p then Some t else None in s) u
+pub allows_if : (p t u : Bool) → t ≡ u → Allows (let s : Status = if p then Some t else None in s) u
 allows_if true t u is = is
 allows_if false t u is = tt
-
-in_range_below : (n v : ℕ) → Contains (range_with_len 0 n) v → v < n
-in_range_below n v there =
-    let long = length-range_with_len 0 n in
-    let lt = there.1 in
-    let within : there.0 < n = omega (arith, long, lt) in
-    let e = get_or-range_with_len 0 n there.0 v within in
-    let is = there.2 in
-    omega (arith, within, e, is)
 
 range_place : (n i v : ℕ) → slice_get (range_with_len 0 n) i ≡ Some v → (v ≡ i) × (i < n)
 range_place n i v at =
@@ -84,7 +75,7 @@ module _ (kernel : Kernel) (valid : IsValid kernel) (conditions : List SigId) (a
   variable v lt = (let a = is.first in omega (arith, a), let a = is.first in let b = is.variables in omega (arith, a, b, lt))
 
   over : (r : Ref) → Holds nodes r → Spans nodes r (range_with_len 0 (length conditions)) → IsOver nodes system r
-  over r hold spans = record { held = hold; within = λ v d. variable v (in_range_below (length conditions) v (spans v d)) }
+  over r hold spans = record { held = hold; within = λ v d. variable v (within_range (length conditions) v (spans v d)) }
 
   own_status : (truths : List Bool) (s : ℕ) → status_read nodes truths (present_at columns (slice_index least s)) (truth_ref kernel rules columns s) ≡ value_status least (values_at nodes columns truths) s
   own_status truths s = elim (cases_Bool (is_boolean kernel s)) [

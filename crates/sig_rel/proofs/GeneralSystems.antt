@@ -1,5 +1,6 @@
 -- Columns that were written by a schedule, with what is left to be met, are the system of a kernel's clocks.
 use Rattle.sig_rel.proofs.Common.{◌≡◌, ◌<◌, ◌≤◌, ◌+◌, ◌-◌, inl, inr, ℕ, suc, Bool, true, false, List, [], ◌∷◌, length, get_or, map, Option, None, Some, refl, sym, ap, ◌∙◌, subst, arith, Contains, if◌then◌else◌, IsTrue, is_some, slice_get, slice_index, option_map, list_all, range_with_len, and_parts, cases_Bool, cases_lt, eq-eqb, eqb-true, false≢true, length-map, get_or-range_with_len, length-map-range_with_len, length-range_with_len, get_or_from_slice_get, slice_get-map, slice_get_past, SigId, IsValid, Equation, Kernel, Allows, KeepsTo, is_condition, is_free, IsReaction, Reaction, Speaks, Status, is_present, is_silent, status_at, contains_at, absent_in_silence, truth_of, with_truth, Holds, Spans, test, Node, Ref, truth_ref, number_of, AreUnknowns, IsUnknownCount, IsUsed, is_boolean, truth_in, IsPresentFrom, is_met, Values, has, value_status, IsSchedule, AreSubstituted, Fits, IsCutTruth, HoldColumns, SpanColumns, present_at, truth_at, values_at, AreConditions, IsOver, IsSolution, IsSystem, IsVariable, SystemView, proposed, reading, status_read, statuses_read, Unknowns, Schedule, Columns}
+use Rattle.sig_rel.proofs.FreeSystems.{read_maps, same_where, allows_if}
 use Rattle.sig_rel.proofs.ScheduledReaction.{agreeing_all}
 use Rattle.sig_rel.proofs.ChosenTruths.{choices}
 use Rattle.sig_rel.proofs.ClassLemmas.{least_of_class, least_own, least_within}
@@ -11,20 +12,8 @@ use Rattle.sig_rel.proofs.ValueReactions.{reaction, reaction_at, reaction_has, r
 
 -- ---- lists
 
-read_maps : (nodes : List Node) (truths : List Bool) (f g : ℕ → Ref) (xs : List ℕ) → statuses_read nodes truths (map f xs) (map g xs) ≡ map (λ s. status_read nodes truths (f s) (g s)) xs
-read_maps nodes truths f g [] = refl
-read_maps nodes truths f g (x ∷ xs) = ap (λ rest. status_read nodes truths (f x) (g x) ∷ rest) (read_maps nodes truths f g xs)
-
-same_where : (p t : Bool) → t ≡ true → (let s : Status = if p then Some p else None in s) ≡ (if p then Some t else None)
-same_where true t is = ap Some (sym is)
-same_where false t is = refl
-
-allows_if : (p t u : Bool) → t ≡ u → Allows (let s : Status = if p then Some t else None in s) u
-allows_if true t u is = is
-allows_if false t u is = tt
-
 -- some signal of a reaction that is not silent is present
-someone : (r : Reaction) → is_silent r ≡ false → (k : ℕ) × (k < length r) × (is_present r k ≡ true)
+pub someone : (r : Reaction) → is_silent r ≡ false → (k : ℕ) × (k < length r) × (is_present r k ≡ true)
 someone [] loud = absurd (false≢true (sym loud))
 someone (None ∷ r) loud = let rest = someone r loud in (suc rest.0, omega (arith, rest.1), rest.2)
 someone (Some b ∷ r) loud = (0, omega arith, refl)

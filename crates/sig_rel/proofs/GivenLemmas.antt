@@ -27,9 +27,8 @@ pub first_below : (kernel : Kernel) (least : List ℕ) (first : ℕ) (numbering 
 first_below kernel least first numbering given = let e = given.counted in omega arith
 
 none_there : (n k v : ℕ) → slice_get (replicate n None) k ≡ Some (Some v) → ⊥
-none_there zero k v is = cc
-none_there (suc n) zero v is = cc
 none_there (suc n) (suc k) v is = none_there n k v is
+none_there _ _ v is = cc
 
 none_numbers : (IsWanted : ℕ → Type 0) (first next n : ℕ) → AreNumbers IsWanted first next (replicate n None)
 none_numbers IsWanted first next n = record {

@@ -1,5 +1,5 @@
 -- Functions of truths, and what stays of them as a store grows.
-use Rattle.sig_rel.proofs.Common.{◌≡◌, ℕ, Bool, true, false, not, ◌&&◌, ◌||◌, List, [], ◌∷◌, None, Some, refl, if◌then◌else◌, Status, has_truth, or_else, same_status, same_truth, where_present, where_true, StoreView, Holds, Keeps, test, HoldAll, SpanAll, Ref, Agree-kept, Holds-kept, Spans-kept, refs_of, status_by, Known}
+use Rattle.sig_rel.proofs.Common.{◌≡◌, Bool, true, false, not, ◌&&◌, ◌||◌, List, [], ◌∷◌, None, Some, refl, if◌then◌else◌, Status, has_truth, or_else, same_status, same_truth, where_present, where_true, StoreView, Holds, Keeps, test, HoldAll, Ref, Agree-kept, Holds-kept}
 
 module _ (s t : StoreView) (kept : Keeps s t) where
   -- references that are held still are
@@ -7,16 +7,8 @@ module _ (s t : StoreView) (kept : Keeps s t) where
   HoldAll-kept [] h = tt
   HoldAll-kept (f ∷ fs) h = (Holds-kept s t kept f h.0, HoldAll-kept fs h.1)
 
-  pub SpanAll-kept : (vs : List ℕ) (fs : List Ref) → HoldAll s.nodes fs → SpanAll s.nodes fs vs → SpanAll t.nodes fs vs
-  SpanAll-kept vs [] h spans = tt
-  SpanAll-kept vs (f ∷ fs) h spans = (Spans-kept s t kept f h.0 vs spans.0, SpanAll-kept vs fs h.1 spans.1)
-
   pub test_kept : (f : Ref) → Holds s.nodes f → (truths : List Bool) → test t.nodes f truths ≡ test s.nodes f truths
   test_kept f held truths = Agree-kept s t kept f held truths
-
-  -- and a status stays
-  pub status_kept : (known : Known) → HoldAll s.nodes (refs_of known) → (truths : List Bool) → status_by t.nodes known truths ≡ status_by s.nodes known truths
-  status_kept known held truths = λ j. if test_kept known.present held.0 truths j then Some (test_kept known.truth held.1.0 truths j) else None
 
 abbrev pub status : Bool → Bool → Status
 status present truth = if present then Some truth else None
@@ -32,8 +24,7 @@ conj_is_choice false b = refl
 -- a status where another one is present and true
 pub where_true_is : (bp bt xp xt : Bool) → status ((bp && bt) && xp) xt ≡ where_true (status bp bt) (status xp xt)
 where_true_is true true xp xt = refl
-where_true_is true false xp xt = refl
-where_true_is false bt xp xt = refl
+where_true_is _ _ xp xt = refl
 
 pub or_else_is : (up ut vp vt : Bool) → status (up || vp) (if up then ut else vt) ≡ or_else (status up ut) (status vp vt)
 or_else_is true ut vp vt = refl

@@ -1,5 +1,5 @@
 -- Calls that made references, one after another.
-use Rattle.sig_rel.proofs.Common.{◌≡◌, ◌≤◌, ◌+◌, ℕ, Bool, List, [], ◌∷◌, inl, inr, None, Some, Result, Ok, Err, IfOk, refl, sym, subst, arith, Contains, if◌then◌else◌, IsErrAnd, mul-le-mul_right, Depends, truth_of, StoreView, IsRefOf, IsStore, Keeps, Spans, allowance, test, HasAll, HoldAll, Share, Shares, SpanAll, refusal, DdAnswer, Node, Ref, Share-then, Share-wider, Depends-of_one, Depends-of_two, Keeps-itself, Keeps-trans, Spans-of, choice_depends, variable_depends, Trail-begins, Trail-next, Leads, Makes, itself}
+use Rattle.sig_rel.proofs.Common.{◌≡◌, ◌≤◌, ◌+◌, ℕ, Bool, List, [], ◌∷◌, inl, inr, None, Some, Result, Ok, Err, IfOk, refl, sym, subst, arith, Contains, if◌then◌else◌, IsErrAnd, mul-le-mul_right, Depends, StoreView, IsRefOf, IsStore, Keeps, Spans, allowance, test, HasAll, HoldAll, Share, Shares, SpanAll, refusal, DdAnswer, Node, Ref, Share-then, Share-wider, Depends-of_one, Depends-of_two, Keeps-itself, Keeps-trans, Spans-of, choice_depends, Trail-begins, Trail-next, Leads, Makes, itself}
 
 -- a call of the store that makes a function g
 module _ (fs : List Ref) (us : List ℕ) (g : List Bool → Bool) (IsWide : List ℕ → Type 0) (s t : StoreView) (store : IsStore t) (kept : Keeps s t)
@@ -15,11 +15,6 @@ module _ (fs : List Ref) (us : List ℕ) (g : List Bool → Bool) (IsWide : List
   made_call (Err e) is call = record { store = store; kept = kept; held = tt; leads = λ vs wide. call.over vs (spans vs wide) (has vs wide) }
 
 module _ (s t : StoreView) (store : IsStore t) (kept : Keeps s t) (result : Result Ref DdAnswer) where
-  pub made_variable : (v : ℕ) → IfOk result (IsRefOf t.nodes (λ truths. truth_of truths v)) → Shares 1 [] (v ∷ []) s t (refusal result) → Makes 1 (λ vs. HasAll vs (v ∷ [])) s t itself result
-  made_variable v is call =
-      made_call [] (v ∷ []) (λ truths. truth_of truths v) (λ vs. HasAll vs (v ∷ [])) s t store kept (λ vs wide. tt) (λ vs wide. wide)
-      (λ vs wide u d. subst (Contains vs) (sym (variable_depends v u d)) wide.0) result is call
-
   pub made_one : (op : Bool → Bool) (f : Ref) → IfOk result (IsRefOf t.nodes (λ ts. op (test s.nodes f ts))) → Shares 1 (f ∷ []) [] s t (refusal result) → Makes 1 (SpanAll s.nodes (f ∷ [])) s t itself result
   made_one op f is call =
       made_call (f ∷ []) [] (λ ts. op (test s.nodes f ts)) (SpanAll s.nodes (f ∷ [])) s t store kept (λ vs wide. wide) (λ vs wide. tt)
@@ -112,6 +107,3 @@ made_none n Wide s refs x store held spans =
 -- a constant depends on nothing
 pub constant_spans : (nodes : List Node) (b : Bool) (h : Ref) (vs : List ℕ) → IsRefOf nodes (λ ts. b) h → Spans nodes h vs
 constant_spans nodes b h vs is = Spans-of nodes (λ ts. b) h is vs (λ v d. absurd (d.1 refl))
-
-pub made_constant : (n : ℕ) (Wide : List ℕ → Type 0) (s : StoreView) (b : Bool) (h : Ref) → IsStore s → IsRefOf s.nodes (λ ts. b) h → Makes n Wide s s itself (Ok h)
-made_constant n Wide s b h store is = made_none n Wide s itself h store (is.holds, tt) (λ vs wide. (constant_spans s.nodes b h vs is, tt))

@@ -1,37 +1,10 @@
 -- What is written of an element, by the equation that its table has for it.
-use Rattle.sig_rel.proofs.Common.{◌≡◌, ◌<◌, ◌≤◌, ◌+◌, ◌*◌, ◌++◌, ℕ, Bool, List, [], ◌∷◌, length, take, get_or, Option, None, Some, Result, Ok, Err, refl, sym, ap, ◌∙◌, subst, arith, option_map, slice_get, IsErrAnd, Signal, slice_get_past, slice_get_read, take_more, sum_by_more, sum_by-take-le, contains_at, get_at, get_within, StoreView, test, DdAnswer, Node, Ref, Equation, Form, Kernel, IsCut, IsGiven, entry_of, signal_of, presence_by, Makes, itself, Gives, GivesTruth, IsPartlyWritten, SpanColumns, given_by, no_ref, size_of, step_at, steps, values_at, IsOrderOfWriting, form_at, Element, Presence, Truth, Rules, Columns}
+use Rattle.sig_rel.proofs.Common.{◌≡◌, ◌<◌, ◌≤◌, ◌+◌, ◌*◌, ◌++◌, ℕ, Bool, List, [], ◌∷◌, length, take, get_or, Some, Result, Ok, Err, sym, ap, ◌∙◌, subst, arith, slice_get, IsErrAnd, Signal, take_more, sum_by_more, sum_by-take-le, contains_at, get_at, get_within, StoreView, test, DdAnswer, Node, Ref, Form, Kernel, IsGiven, signal_of, presence_by, Makes, itself, Gives, GivesTruth, IsPartlyWritten, SpanColumns, given_by, no_ref, size_of, step_at, steps, values_at, IsOrderOfWriting, Element, Presence, Truth, Rules, Columns}
 use Rattle.sig_rel.proofs.Makings.{makes_err, makes_ok, makes_then}
 use Rattle.sig_rel.proofs.UnknownLemmas.{boolean_within}
 
--- an element that was read, and none
-pub read_at : {X : Type 0} (own items : List X) (i : ℕ) (x : X) → own ≡ items → i < length own → x ≡ get_or own i x → slice_get items i ≡ Some x
-read_at own items i x same lt is = subst (λ xs. slice_get xs i ≡ Some x) same (slice_get_read own (length own) i x refl lt is)
-
-pub read_past : {X : Type 0} (own items : List X) (i : ℕ) → own ≡ items → length own ≤ i → slice_get items i ≡ None
-read_past own items i same past = subst (λ xs. slice_get xs i ≡ None) same (slice_get_past own i past)
-
 pub element_at : (own list : List Element) (k : ℕ) (d : Element) → own ≡ list → k < length own → slice_get list k ≡ Some (get_or own k d)
 element_at own list k d same lt = subst (λ xs. slice_get xs k ≡ Some (get_or own k d)) same (get_at own k d lt)
-
--- an equation at a number, and none
-at_form : (kernel : Kernel) (number : ℕ) (equation : Equation) → slice_get kernel.equations number ≡ Some equation → form_at kernel number ≡ Some equation.form
-at_form kernel number equation at = ap (option_map (λ (e : Equation). e.form)) at
-
-no_form : (kernel : Kernel) (m n : ℕ) (form : Form) (entry : Option (Option ℕ)) → entry ≡ Some (Some m) → slice_get kernel.equations m ≡ None → entry ≡ Some (Some n) → form_at kernel n ≡ Some form → ⊥
-no_form kernel m n form entry first none second at =
-    let both : Some (Some m) ≡ Some (Some n) = sym first ∙ second in
-    let same : m ≡ n = cc in
-    let off : None ≡ Some form = sym (ap (option_map (λ (e : Equation). e.form)) none) ∙ ap (form_at kernel) same ∙ at in
-    cc
-
-module _ (kernel : Kernel) (rules : Rules) (element : Element) (number : ℕ) (entry : entry_of rules element ≡ Some (Some number)) where
-  -- the tables have an equation for the element
-  pub given_is : (equation : Equation) → slice_get kernel.equations number ≡ Some equation → IsGiven kernel rules element equation.form
-  given_is equation at = (number, (entry, at_form kernel number equation at))
-
-  -- the number is that of no equation
-  pub off_cut : slice_get kernel.equations number ≡ None → IsCut kernel rules element
-  off_cut none n form is = no_form kernel number n form (entry_of rules element) entry none is.0 is.1
 
 -- there is a row for each element of an order of writing
 pub has_row : (kernel : Kernel) (rules : Rules) (list : List Element) (columns : Columns) → IsOrderOfWriting kernel rules list → length columns.rows.items ≡ length kernel.signals

@@ -1,5 +1,5 @@
 -- Each signal is defined once, and a condition by an equation that frees it.
-use Rattle.sig_rel.proofs.Common.{◌≡◌, ◌<◌, ◌≤◌, inl, inr, ℕ, zero, suc, Bool, true, false, cond, List, [], ◌∷◌, length, get_or, None, Some, refl, sym, ap, ◌∙◌, subst, arith, ◌&&◌, ◌||◌, count_by, nat_lt, slice_get, list_any, and_parts, cases_Bool, cases_lt, eqb-true, false≢true, lt-ltb, ltb-true, or_cases, or_left, or_right, sum_by-cons, Signal, form_fits, kind_at, operands_of, target_of, IsValid, defines, form_within, is_signal, is_target, target_within, Equation, Form, Fun, Delay, When, WhenConst, Default, Sync, Event, Kernel, freed, frees, is_condition, is_free, is_number, signal_id, compares, is_boolean_kind}
+use Rattle.sig_rel.proofs.Common.{◌≡◌, ◌<◌, ◌≤◌, inl, inr, ℕ, zero, suc, Bool, true, false, cond, List, [], ◌∷◌, length, get_or, None, Some, refl, sym, ap, ◌∙◌, subst, arith, ◌&&◌, ◌||◌, count_by, nat_lt, slice_get, list_any, and_parts, cases_Bool, cases_lt, eqb-true, false≢true, lt-ltb, ltb-true, or_cases, sum_by-cons, Signal, form_fits, kind_at, operands_of, target_of, IsValid, defines, form_within, is_signal, is_target, target_within, Equation, Form, Fun, Delay, Kernel, freed, frees, is_condition, is_free, is_number, signal_id, compares, is_boolean_kind, any_passes_from_place, or_right, Option, SigId}
 
 abbrev one_where : Bool → ℕ
 one_where b = cond b 1 0
@@ -49,20 +49,11 @@ frees_defines signals signal (Fun y op operands) is = by (compares signals op op
   by true is = is
   by false is = absurd (false≢true is)
 frees_defines signals signal (Delay y x c) is = is
-frees_defines signals signal (When y x b) is = absurd (false≢true is)
-frees_defines signals signal (WhenConst y c b) is = absurd (false≢true is)
-frees_defines signals signal (Default y u v) is = absurd (false≢true is)
-frees_defines signals signal (Sync x y) is = absurd (false≢true is)
-frees_defines signals signal (Event y x) is = absurd (false≢true is)
+frees_defines signals signal _ is = absurd (false≢true is)
 
-target_is : (n signal : ℕ) (form : Form) → form_within n form ≡ true → is_target signal (target_of form) ≡ true → signal < n
-target_is n signal (Fun y op operands) within is = subst (λ m. m < n) (eqb-true y.0 signal is) (ltb-true y.0 n (and_parts (target_within n (Some y)) _ within).0)
-target_is n signal (Delay y x c) within is = subst (λ m. m < n) (eqb-true y.0 signal is) (ltb-true y.0 n (and_parts (target_within n (Some y)) _ within).0)
-target_is n signal (When y x b) within is = subst (λ m. m < n) (eqb-true y.0 signal is) (ltb-true y.0 n (and_parts (target_within n (Some y)) _ within).0)
-target_is n signal (WhenConst y c b) within is = subst (λ m. m < n) (eqb-true y.0 signal is) (ltb-true y.0 n (and_parts (target_within n (Some y)) _ within).0)
-target_is n signal (Default y u v) within is = subst (λ m. m < n) (eqb-true y.0 signal is) (ltb-true y.0 n (and_parts (target_within n (Some y)) _ within).0)
-target_is n signal (Sync x y) within is = absurd (false≢true is)
-target_is n signal (Event y x) within is = subst (λ m. m < n) (eqb-true y.0 signal is) (ltb-true y.0 n (and_parts (target_within n (Some y)) _ within).0)
+target_is : (n signal : ℕ) (target : Option SigId) → target_within n target ≡ true → is_target signal target ≡ true → signal < n
+target_is n signal None within is = absurd (false≢true is)
+target_is n signal (Some y) within is = subst (λ m. m < n) (eqb-true y.0 signal is) (ltb-true y.0 n within)
 
 module _ {X : Type 0} where
   pub got_within : (xs : List X) (k : ℕ) (x : X) → slice_get xs k ≡ Some x → k < length xs
@@ -100,7 +91,7 @@ module _ (kernel : Kernel) (valid : IsValid kernel) where
   few : (signal k : ℕ) (equation : Equation) → slice_get kernel.equations k ≡ Some equation → defines signal equation ≡ true → (kernel.inputs ≤ signal) × (count_by (defines signal) kernel.equations ≡ 1)
   few signal k equation at is = elim (cases_lt signal kernel.inputs) [
     | inl lt ↦ let none = valid.defined.inputs signal lt in let some = counted_there (defines signal) kernel.equations k equation at is in absurd (omega (arith, none, some))
-    | inr le ↦ (le, valid.defined.others signal le (target_is (length kernel.signals) signal equation.form (within_at k equation at) is))
+    | inr le ↦ (le, valid.defined.others signal le (target_is (length kernel.signals) signal (target_of equation.form) (and_parts (target_within (length kernel.signals) (target_of equation.form)) _ (within_at k equation at)).0 is))
   ]
 
   pub defined_once : (signal i j : ℕ) (e f : Equation) → slice_get kernel.equations i ≡ Some e → slice_get kernel.equations j ≡ Some f → defines signal e ≡ true → defines signal f ≡ true → i ≡ j
@@ -132,13 +123,8 @@ module _ (kernel : Kernel) (valid : IsValid kernel) where
     by true e = absurd (false≢true (sym none ∙ freed_there signal k equation at is e))
     by false e = e
 
-pub any_there : {X : Type 0} (p : X → Bool) (xs : List X) (k : ℕ) (x : X) → slice_get xs k ≡ Some x → p x ≡ true → list_any p xs ≡ true
-any_there p [] k x at is = absurd (let none : None ≡ Some x = at in cc)
-any_there p (y ∷ xs) zero x at is = let e : y ≡ x = cc in or_left (p y) (list_any p xs) (ap p e ∙ is)
-any_there p (y ∷ xs) (suc k) x at is = or_right (p y) (list_any p xs) (any_there p xs k x at is)
-
 -- a boolean that an equation frees is a condition
 pub condition_freed : (kernel : Kernel) (signal k : ℕ) (equation : Equation) → slice_get kernel.equations k ≡ Some equation → frees kernel.signals signal equation ≡ true
     → is_boolean_kind (kind_at kernel.signals (signal_id signal)) ≡ true → is_condition kernel signal ≡ true
 condition_freed kernel signal k equation at is boolean =
-    (λ j. boolean j && is_free kernel signal) ∙ or_right (nat_lt signal kernel.inputs) (list_any (frees kernel.signals signal) kernel.equations) (any_there (frees kernel.signals signal) kernel.equations k equation at is)
+    (λ j. boolean j && is_free kernel signal) ∙ or_right (nat_lt signal kernel.inputs) (list_any (frees kernel.signals signal) kernel.equations) (any_passes_from_place (frees kernel.signals signal) kernel.equations k equation at is)

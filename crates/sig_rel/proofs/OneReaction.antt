@@ -1,5 +1,5 @@
 -- A reaction that keeps to a proposal is the one that the values are that keep to the tables of a triangular kernel.
-use Rattle.sig_rel.proofs.Common.{◌≡◌, ◌<◌, inl, inr, ℕ, zero, suc, Bool, true, false, List, [], ◌∷◌, length, get_or, map, take, Option, None, Some, refl, sym, ap, ◌∙◌, subst, arith, Contains, ◌||◌, is_some, slice_get, option_map, range_with_len, cases_Bool, false≢true, ext_get_or, get_or-map-range_with_len, length-map-range_with_len, SigId, kind_at, IsValid, Equation, Form, Fun, Delay, When, WhenConst, Default, Sync, Event, Kernel, Allows, KeepsTo, is_condition, signal_id, Reaction, Speaks, Status, is_present, is_silent, status_at, truth_of_status, where_true, or_else, constant_truth, at_contained, contains_at, contains_head, contains_later, statuses_are_same, truth_of, is_boolean, AreRules, AreValues, Values, value_status, AreConditions, Governs, IsTriangle, MayHold, form_at, operand_signals, Element, Presence, Truth}
+use Rattle.sig_rel.proofs.Common.{◌≡◌, ◌<◌, inl, inr, ℕ, zero, suc, Bool, true, false, List, [], ◌∷◌, length, get_or, map, take, Option, None, Some, refl, sym, ap, ◌∙◌, subst, arith, Contains, is_some, slice_get, option_map, range_with_len, cases_Bool, false≢true, ext_get_or, get_or-map-range_with_len, length-map-range_with_len, SigId, kind_at, IsValid, Equation, Form, When, WhenConst, Default, Kernel, Allows, KeepsTo, is_condition, signal_id, Reaction, Speaks, Status, is_present, is_silent, status_at, truth_of_status, where_true, or_else, constant_truth, at_contained, contains_at, contains_head, contains_later, statuses_are_same, truth_of, is_boolean, AreRules, AreValues, Values, value_status, AreConditions, Governs, IsTriangle, MayHold, form_at, operand_signals, Element, Presence, Truth, or_from}
 use Rattle.sig_rel.proofs.ChosenTruths.{all_statuses}
 use Rattle.sig_rel.proofs.ClassLemmas.{least_within, least_own}
 use Rattle.sig_rel.proofs.FormLemmas.{inside, met, three, two}
@@ -11,9 +11,6 @@ quiet_if_absent : (reaction : Reaction) → ((k : ℕ) → k < length reaction �
 quiet_if_absent [] absent = refl
 quiet_if_absent (None ∷ reaction) absent = quiet_if_absent reaction (λ k lt. absent (suc k) (omega (arith, lt)))
 quiet_if_absent (Some b ∷ reaction) absent = absurd (false≢true (sym (absent 0 (omega arith))))
-
-both_absent : (a b : Bool) → a ≡ false → b ≡ false → (a || b) ≡ false
-both_absent a b ea eb = (λ j. ea j || eb j)
 
 no_condition : (s x : Status) → is_some s ≡ false → is_some (where_true s x) ≡ false
 no_condition None x absent = refl
@@ -32,8 +29,6 @@ module _ (kernel : Kernel) (valid : IsValid kernel) (least : List ℕ) (counted 
 
   -- a class that an equation gives its presence is absent where the operands' classes are
   absent_by : (class number : ℕ) (form : Form) → form_at kernel number ≡ Some form → Governs least class form → ((x : ℕ) → Contains (operand_signals form) x → x < length kernel.signals → is_present r x ≡ false) → is_present r class ≡ false
-  absent_by class number (Fun y op operands) at governs absent = absurd governs
-  absent_by class number (Delay y x c) at governs absent = absurd governs
   absent_by class number (When y x b) at governs absent =
       let l = three kernel y x b (inside kernel valid number (When y x b) at) in
       let e = statuses_are_same (status_at r y.0) (where_true (status_at r b.0) (status_at r x.0)) (met kernel valid number (When y x b) at r speaks.is) in
@@ -48,9 +43,8 @@ module _ (kernel : Kernel) (valid : IsValid kernel) (least : List ℕ) (counted 
       let l = three kernel y u v (inside kernel valid number (Default y u v) at) in
       let e = statuses_are_same (status_at r y.0) (or_else (status_at r u.0) (status_at r v.0)) (met kernel valid number (Default y u v) at r speaks.is) in
       ap (is_present r) (sym governs) ∙ sym (of_class y.0 l.0) ∙ e ∙ or_else_present (status_at r u.0) (status_at r v.0)
-      ∙ both_absent (is_present r u.0) (is_present r v.0) (absent u.0 (contains_head u.0 (v.0 ∷ [])) l.1) (absent v.0 (contains_later u.0 v.0 (v.0 ∷ []) (contains_head v.0 [])) l.2)
-  absent_by class number (Sync x y) at governs absent = absurd governs
-  absent_by class number (Event y x) at governs absent = absurd governs
+      ∙ or_from (is_present r u.0) (is_present r v.0) (absent u.0 (contains_head u.0 (v.0 ∷ [])) l.1) (absent v.0 (contains_later u.0 v.0 (v.0 ∷ []) (contains_head v.0 [])) l.2)
+  absent_by class number _ at governs absent = absurd governs
 
   absent_below : is_present r tri.top ≡ false → (m k class : ℕ) → k < m → slice_get list k ≡ Some (Presence class) → is_present r class ≡ false
   absent_below top zero k class lt at = absurd (omega (arith, lt))

@@ -3,19 +3,15 @@ use Rattle.sig_rel.proofs.Common.{◌≡◌, ◌<◌, ◌≤◌, ◌+◌, ◌⊎
 
 -- what stands in a list after a number is set
 pub got_set : (numbers : List (Option ℕ)) (k j w v : ℕ) → slice_get (set numbers k (Some w)) j ≡ Some (Some v) → ((j ≡ k) × (v ≡ w)) ⊎ (slice_get numbers j ≡ Some (Some v))
-got_set [] k j w v is = inr is
 got_set (x ∷ numbers) zero zero w v is = inl (refl, cc)
-got_set (x ∷ numbers) zero (suc j) w v is = inr is
-got_set (x ∷ numbers) (suc k) zero w v is = inr is
 got_set (x ∷ numbers) (suc k) (suc j) w v is = elim (got_set numbers k j w v is) [ inl p ↦ inl (ap suc p.0, p.1) | inr there ↦ inr there ]
+got_set _ _ _ w v is = inr is
 
 -- an older number stays where one is set at a place without one
 pub kept_set : (numbers : List (Option ℕ)) (k j w v : ℕ) → get_or numbers k None ≡ None → slice_get numbers j ≡ Some (Some v) → slice_get (set numbers k (Some w)) j ≡ Some (Some v)
-kept_set [] k j w v none is = is
 kept_set (x ∷ numbers) zero zero w v none is = let no : Some x ≡ Some (Some v) = is in let isnt : x ≡ None = none in cc
-kept_set (x ∷ numbers) zero (suc j) w v none is = is
-kept_set (x ∷ numbers) (suc k) zero w v none is = is
 kept_set (x ∷ numbers) (suc k) (suc j) w v none is = kept_set numbers k j w v none is
+kept_set _ _ _ w v none is = is
 
 pub set_there : (numbers : List (Option ℕ)) (k w : ℕ) → k < length numbers → slice_get (set numbers k (Some w)) k ≡ Some (Some w)
 set_there [] k w lt = absurd (omega (arith, lt))

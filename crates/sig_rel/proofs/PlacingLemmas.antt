@@ -1,6 +1,6 @@
 -- A list that is put together one element after another shows that a kernel is triangular where it is whole, and
 -- where nothing more may be placed and it is not whole, no list does.
-use Rattle.sig_rel.proofs.Common.{◌≡◌, ◌<◌, ◌+◌, ◌++◌, ◌⊎◌, inl, inr, ℕ, zero, suc, Bool, true, false, not, cond, List, [], ◌∷◌, length, get_or, take, Option, None, Some, refl, sym, ap, ◌∙◌, subst, arith, Contains, ◌&&◌, slice_get, slice_set, option_map, count_by, ◌==◌, list_all, and_parts, and_from, cases_Bool, cases_eq, eq-eqb, eqb-true, false≢true, ltb-true, not-true, or_cases, or_left, or_right, get_or-set_other, get_or-set_same, length-set, take-append-le, take_all, sum_by-set, IsValid, defines, form_within, is_below, Equation, Form, Fun, Delay, When, WhenConst, Default, Sync, Event, Operand, Sig, Const, Kernel, is_condition, signals_among, at_contained, contains_at, contains_cons, contains_head, contains_later, contains_none, is_boolean, EntersAfter, HoldsAfter, StandsAfter, AreMarks, AreRulesOf, IsBegun, IsFreshWithin, IsPlaced, IsStuck, IsWithin, MayBePlaced, allows_top, has_class, has_operand, has_operand_of, has_truth_of, has_whole, governs, is_top_class, presence_ready, truth_ready, unmarked, with_class, with_truth_of, Governs, HasClasses, HasOperandOf, HasTruths, IsClass, IsCounted, IsTop, IsTriangle, IsTriangular, MayHold, MayStand, form_at, operand_signals, tested, Element, Presence, Truth, Placed, Rules, ◌-◌, ◌*◌, if◌then◌else◌, lt-ltb, signal_of, is_ready, form_by, equation_for, get_or_from_slice_get, is_left, may_take, AreLeast, numbered_element, step_by, nat_lt}
+use Rattle.sig_rel.proofs.Common.{◌≡◌, ◌<◌, ◌+◌, ◌++◌, ◌⊎◌, inl, inr, ℕ, zero, suc, Bool, true, false, not, List, [], ◌∷◌, length, get_or, take, Option, None, Some, refl, sym, ap, ◌∙◌, subst, arith, Contains, ◌&&◌, slice_get, slice_set, option_map, ◌==◌, list_all, and_parts, and_from, cases_Bool, cases_eq, eq-eqb, eqb-true, false≢true, ltb-true, not-true, or_cases, get_or-set_other, get_or-set_same, length-set, take-append-le, take_all, IsValid, defines, form_within, is_below, Equation, Form, Fun, Delay, When, WhenConst, Default, Sync, Event, Operand, Sig, Const, Kernel, is_condition, signals_among, at_contained, contains_at, contains_cons, contains_head, contains_later, contains_none, is_boolean, EntersAfter, HoldsAfter, StandsAfter, AreMarks, AreRulesOf, IsBegun, IsFreshWithin, IsPlaced, IsStuck, MayBePlaced, allows_top, has_class, has_operand, has_operand_of, has_truth_of, has_whole, governs, is_top_class, presence_ready, truth_ready, with_class, with_truth_of, Governs, HasClasses, HasOperandOf, HasTruths, IsClass, IsCounted, IsTop, IsTriangle, IsTriangular, MayHold, MayStand, form_at, operand_signals, tested, Element, Presence, Truth, Placed, Rules, ◌-◌, ◌*◌, if◌then◌else◌, lt-ltb, signal_of, is_ready, form_by, equation_for, get_or_from_slice_get, is_left, may_take, AreLeast, numbered_element, step_by, nat_lt, contains_last, or_left, or_right}
 use Rattle.sig_rel.proofs.ClassLemmas.{least_own, least_within}
 use Rattle.sig_rel.proofs.OnceDefined.{defined_once, within_at}
 use Rattle.sig_rel.proofs.RuleLemmas.{all_at, all_from, governs_from, governs_true, operand_from, operand_true}
@@ -16,10 +16,6 @@ contains_more (z ∷ xs) x y there = elim (contains_cons z y xs there) [
   | inl is ↦ subst (λ w. Contains (w ∷ (xs ++ x ∷ [])) y) is (contains_head y (xs ++ x ∷ []))
   | inr later ↦ contains_later z y (xs ++ x ∷ []) (contains_more xs x y later)
 ]
-
-pub contains_last : {X : Type 0} (xs : List X) (x : X) → Contains (xs ++ x ∷ []) x
-contains_last [] x = contains_head x []
-contains_last (z ∷ xs) x = contains_later z x (xs ++ x ∷ []) (contains_last xs x)
 
 pub among_more : {X : Type 0} (xs : List X) (x y : X) → Contains (xs ++ x ∷ []) y → Contains xs y ⊎ (y ≡ x)
 among_more [] x y there = elim (contains_cons x y [] there) [ inl is ↦ inr is | inr none ↦ absurd (contains_none y none) ]
@@ -134,28 +130,6 @@ marks_more n old new (Truth s) marks lt list classes truths =
       );
     }
 
-abbrev one_unless : Bool → ℕ
-one_unless b = cond (not b) 1 0
-
--- one place less is not marked
-fewer : (marks : List Bool) (i : ℕ) → i < length marks → get_or marks i false ≡ false → count_by not (slice_set marks i true) + 1 ≡ count_by not marks
-fewer marks i lt unset =
-    let e = sum_by-set one_unless marks i true false lt in
-    let z = ap one_unless unset in
-    omega (arith, e, z)
-
-pub fewer_unmarked : (old new : Placed) (element : Element) → IsFreshWithin old element → new.classes.items ≡ with_class old.classes.items element → new.truths.items ≡ with_truth_of old.truths.items element → unmarked new < unmarked old
-fewer_unmarked old new (Presence c) fresh classes truths =
-    let e = fewer old.classes.items c fresh.0 fresh.1 in
-    let a = ap (count_by not) classes in
-    let b = ap (count_by not) truths in
-    omega (arith, e, a, b)
-fewer_unmarked old new (Truth s) fresh classes truths =
-    let e = fewer old.truths.items s fresh.0 fresh.1 in
-    let a = ap (count_by not) classes in
-    let b = ap (count_by not) truths in
-    omega (arith, e, a, b)
-
 -- ---- what is ready
 
 one_from : (P : ℕ → Type 0) (a z : ℕ) → P a → Contains (a ∷ []) z → P z
@@ -196,8 +170,6 @@ module _ (kernel : Kernel) (least : List ℕ) (placed : Placed) (marks : AreMark
   whole_from x class truth = and_from (has_class least placed x) (has_truth_of kernel placed x) (class_from x class) (truth_from x truth)
 
   pub presence_says : (class : ℕ) (form : Form) → Governs least class form → presence_ready kernel least placed form ≡ true → HasClasses least placed.list.items (operand_signals form) × HasTruths kernel placed.list.items (tested form)
-  presence_says class (Fun y op operands) governs is = absurd governs
-  presence_says class (Delay y x c) governs is = absurd governs
   presence_says class (When y x b) governs is =
       let parts = and_parts (has_class least placed x.0) (has_whole kernel least placed b.0) is in
       let whole = whole_says b.0 parts.1 in
@@ -208,19 +180,15 @@ module _ (kernel : Kernel) (least : List ℕ) (placed : Placed) (marks : AreMark
   presence_says class (Default y u v) governs is =
       let parts = and_parts (has_class least placed u.0) (has_class least placed v.0) is in
       ((λ z there. two_from HasClass u.0 v.0 z (class_says u.0 parts.0) (class_says v.0 parts.1) there), (λ z there. absurd (contains_none z there)))
-  presence_says class (Sync x y) governs is = absurd governs
-  presence_says class (Event y x) governs is = absurd governs
+  presence_says class _ governs is = absurd governs
 
   presence_from : (form : Form) → HasClasses least placed.list.items (operand_signals form) → HasTruths kernel placed.list.items (tested form) → presence_ready kernel least placed form ≡ true
-  presence_from (Fun y op operands) classes truths = refl
-  presence_from (Delay y x c) classes truths = refl
   presence_from (When y x b) classes truths = and_from (has_class least placed x.0) (has_whole kernel least placed b.0) (class_from x.0 (classes x.0 (contains_head x.0 (b.0 ∷ []))))
       (whole_from b.0 (classes b.0 (contains_later x.0 b.0 (b.0 ∷ []) (contains_head b.0 []))) (truths b.0 (contains_head b.0 [])))
   presence_from (WhenConst y c b) classes truths = whole_from b.0 (classes b.0 (contains_head b.0 [])) (truths b.0 (contains_head b.0 []))
   presence_from (Default y u v) classes truths = and_from (has_class least placed u.0) (has_class least placed v.0) (class_from u.0 (classes u.0 (contains_head u.0 (v.0 ∷ []))))
       (class_from v.0 (classes v.0 (contains_later u.0 v.0 (v.0 ∷ []) (contains_head v.0 []))))
-  presence_from (Sync x y) classes truths = refl
-  presence_from (Event y x) classes truths = refl
+  presence_from _ classes truths = refl
 
   operands_say : (operands : List Operand) → list_all (has_operand kernel least placed) operands ≡ true → (z : ℕ) → Contains (signals_among operands) z → HasClass z × HasTruth z
   operands_say [] is z there = absurd (contains_none z there)
@@ -297,14 +265,6 @@ element_of_truth count signal = by (nat_lt (count + signal) count) refl where
   by true is = absurd (let lt = ltb-true (count + signal) count is in omega (arith, lt))
   by false is = ap (λ (b : Bool). if b then Presence (count + signal) else Truth (count + signal - count)) is ∙ ap Truth (let e : count + signal - count ≡ signal = omega arith in e)
 
-pub element_within : (count place : ℕ) → place < 2 * count → signal_of (numbered_element count place) < count
-element_within count place lt = by (nat_lt place count) refl where
-  by : (b : Bool) → nat_lt place count ≡ b → signal_of (numbered_element count place) < count
-  by true is = subst (λ (b : Bool). signal_of (if b then Presence place else Truth (place - count)) < count) (sym is) (ltb-true place count is)
-  by false is = subst (λ (b : Bool). signal_of (if b then Presence place else Truth (place - count)) < count) (sym is) (omega (arith, lt, zero_less count place lt)) where
-    zero_less : (count place : ℕ) → place < 2 * count → 0 < count
-    zero_less count place lt = omega (arith, lt)
-
 -- where no step by the tables may be taken, nothing more may be placed
 pub is_stuck : (kernel : Kernel) (rules : Rules) (placed : Placed) → ((place : ℕ) → place < 2 * length kernel.signals → may_take kernel rules.least.items placed (step_by rules (numbered_element (length kernel.signals) place)) ≡ false) → IsStuck kernel rules placed
 is_stuck kernel rules placed none (Presence class) lt =
@@ -336,13 +296,10 @@ governed_class kernel valid least are_least class number form at governs = let e
   of_target y lt is = subst (IsClass kernel least) is (least_within kernel least are_least y lt, least_own kernel least are_least y lt)
 
   by : (form : Form) → form_within (length kernel.signals) form ≡ true → Governs least class form → IsClass kernel least class
-  by (Fun y op operands) within governs = absurd governs
-  by (Delay y x c) within governs = absurd governs
   by (When y x b) within governs = of_target y.0 (ltb-true y.0 (length kernel.signals) (and_parts (is_below (length kernel.signals) y) _ within).0) governs
   by (WhenConst y c b) within governs = of_target y.0 (ltb-true y.0 (length kernel.signals) (and_parts (is_below (length kernel.signals) y) _ within).0) governs
   by (Default y u v) within governs = of_target y.0 (ltb-true y.0 (length kernel.signals) (and_parts (is_below (length kernel.signals) y) _ within).0) governs
-  by (Sync x y) within governs = absurd governs
-  by (Event y x) within governs = absurd governs
+  by _ within governs = absurd governs
 
 module _ (kernel : Kernel) (valid : IsValid kernel) (rules : Rules) (are : AreRulesOf kernel rules) where
   abbrev least : List ℕ
@@ -470,10 +427,6 @@ module _ (kernel : Kernel) (valid : IsValid kernel) (rules : Rules) (are : AreRu
 
     pub fresh_there : (element : Element) → MayBePlaced kernel rules placed element → IsFreshWithin placed element
     fresh_there element may = left_fresh kernel least placed is.marks element may.0 (parts element may).0
-
-    pub place_there : (element : Element) → MayBePlaced kernel rules placed element → IsWithin placed element
-    place_there (Presence class) may = let e = is.marks.class_count in let lt : class < length kernel.signals = may.0 in omega (arith, e, lt)
-    place_there (Truth signal) may = let e = is.marks.truth_count in let lt : signal < length kernel.signals = may.0 in omega (arith, e, lt)
 
     pub placed_more : (new : Placed) (element : Element) → MayBePlaced kernel rules placed element → new.list.items ≡ placed.list.items ++ element ∷ []
         → new.classes.items ≡ with_class placed.classes.items element → new.truths.items ≡ with_truth_of placed.truths.items element → IsPlaced kernel rules new

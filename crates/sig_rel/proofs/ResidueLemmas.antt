@@ -1,5 +1,5 @@
 -- What is asked of columns where an equation is to be met.
-use Rattle.sig_rel.proofs.Common.{◌≡◌, ◌<◌, ◌≤◌, ◌+◌, ◌-◌, inl, inr, arith, ℕ, ℤ, Bool, true, false, List, length, get_or, take, None, Some, refl, sym, ap, ◌∙◌, subst, if◌then◌else◌, ◌&&◌, ◌||◌, list_all, and_from, and_parts, cases_eq, false≢true, or_cases, list_all_more, SigId, Signal, kind_at, Equation, Form, When, WhenConst, Default, Status, constant_truth, has_truth, same_status, where_true, Holds, Keeps, Spans, StoreView, test, HoldAll, SpanAll, Node, Ref, Holds-kept, Spans-kept, is_own, IsOwnStatus, IsSomePresent, is_met, Values, has, presence_by, truth_by_form, value_status, refs_of, status_by, HoldColumns, SpanColumns, present_at, truth_at, values_at, Known, Columns}
+use Rattle.sig_rel.proofs.Common.{◌≡◌, ◌<◌, ◌≤◌, ◌+◌, ◌-◌, inl, inr, arith, ℕ, ℤ, Bool, true, false, List, length, get_or, take, None, Some, refl, sym, ap, ◌∙◌, subst, if◌then◌else◌, ◌&&◌, ◌||◌, list_all, and_from, and_parts, cases_eq, false≢true, or_cases, list_all_more, SigId, Signal, kind_at, Equation, Form, When, WhenConst, Default, constant_truth, same_status, where_true, Holds, Keeps, Spans, StoreView, test, HoldAll, SpanAll, Node, Ref, Holds-kept, Spans-kept, is_own, IsOwnStatus, IsSomePresent, is_met, Values, has, presence_by, truth_by_form, value_status, refs_of, status_by, HoldColumns, SpanColumns, present_at, truth_at, values_at, Known, Columns, or_left, or_right}
 use Rattle.sig_rel.proofs.KeptFunctions.{or_else_is, status, test_kept, where_true_is}
 
 -- columns stay as a store grows
@@ -33,10 +33,6 @@ module _ (nodes : List Node) (least : List ℕ) (columns : Columns) (x : ℕ) (k
   pub own_status : (truths : List Bool) → status_by nodes known truths ≡ value_status least (values_at nodes columns truths) x
   own_status truths = λ j. if test nodes (is.0 j) truths then Some (test nodes (is.1 j) truths) else None
 
-pub no_truth_had : (s : Status) → true ≡ has_truth s None
-no_truth_had None = refl
-no_truth_had (Some a) = refl
-
 -- a signal is what its equation gives
 module _ (signals : List Signal) (least : List ℕ) (values : Values) where
   abbrev IsGiven : SigId → Bool → Form → Type 0
@@ -53,8 +49,7 @@ module _ (signals : List Signal) (least : List ℕ) (values : Values) where
     where
       constant_where : (p t c : Bool) → status (p && t) c ≡ where_true (status p t) (Some c)
       constant_where true true c = refl
-      constant_where true false c = refl
-      constant_where false t c = refl
+      constant_where _ _ c = refl
 
   pub default_met : (form : Form) (y u v : SigId) (r : Bool) → form ≡ Default y u v → IsGiven y r form → r ≡ is_met signals least values form
   default_met form y u v r is = subst (λ f. IsGiven y r f → r ≡ is_met signals least values f) (sym is)
@@ -70,13 +65,6 @@ one_more_asked signals own equations least values k equation before after same l
     ∙ sym (list_all_more (λ e. is_met signals least values e.form) equations k equation lt)
 
 -- ---- where some class is present
-
-or_left : (a b : Bool) → a ≡ true → (a || b) ≡ true
-or_left a b is = ap (λ x. x || b) is
-
-or_right : (a b : Bool) → b ≡ true → (a || b) ≡ true
-or_right true b is = refl
-or_right false b is = is
 
 pub none_present : (nodes : List Node) (least : List ℕ) (columns : Columns) (r : Ref) → ((truths : List Bool) → test nodes r truths ≡ false) → IsSomePresent nodes nodes least columns (length least) r
 none_present nodes least columns r is truths = (λ some. absurd (false≢true (sym (is truths) ∙ some)), λ there. absurd (let from = there.1 in let below = there.2 in omega (arith, from, below)))

@@ -1,98 +1,64 @@
 -- The tables of a kernel.
-use Rattle.sig_rel.proofs.Common.{◌≡◌, ◌<◌, ◌≤◌, ◌⊎◌, inl, inr, ℕ, zero, suc, Bool, true, false, not, List, [], ◌∷◌, length, get_or, map, Option, None, Some, refl, sym, ap, ◌∙◌, subst, arith, Contains, if◌then◌else◌, ◌&&◌, ◌||◌, ◌==◌, nat_lt, position, slice_get, option_map, list_all, list_any, position_or_len, range_with_len, and_parts, cases_Bool, cases_lt, cond-true, eq-eqb, eqb-true, false≢true, lt-ltb, not-true, or_cases, or_left, or_right, get_or-map-range_with_len, length-map-range_with_len, position-Some, fails_before_first, get_or_from_slice_get, slice_get-get_or, slice_get_within, SigId, target_of, IsValid, defines, is_target, Equation, Form, Fun, Delay, When, WhenConst, Default, Sync, Event, Kernel, is_condition, signal_id, AreLeast, at_contained, contains_at, is_boolean, AreRules, AreConditions, counted_at, counted_for, counted_if, defined_for, gives, governs, has_operand_of, is_excused, is_numbered, repeats, target_number, Governs, HasOperandOf, IsCounted, Repeats, form_at}
-use Rattle.sig_rel.proofs.OnceDefined.{any_place, any_there, defined_once, some_definition}
+use Rattle.sig_rel.proofs.Common.{◌≡◌, ◌<◌, ◌≤◌, ◌⊎◌, inl, inr, ℕ, zero, suc, Bool, true, false, not, List, [], ◌∷◌, length, get_or, map, Option, None, Some, refl, sym, ap, ◌∙◌, subst, arith, Contains, if◌then◌else◌, ◌&&◌, ◌||◌, ◌==◌, nat_lt, position, slice_get, option_map, list_all, list_any, position_or_len, range_with_len, and_parts, cases_Bool, cases_lt, cond-true, eq-eqb, eqb-true, false≢true, lt-ltb, not-true, or_cases, get_or-map-range_with_len, length-map-range_with_len, position-Some, fails_before_first, get_or_from_slice_get, slice_get-get_or, slice_get_within, SigId, target_of, IsValid, defines, is_target, Equation, Form, When, WhenConst, Default, Kernel, is_condition, signal_id, AreLeast, at_contained, contains_at, is_boolean, AreRules, AreConditions, counted_at, counted_for, counted_if, defined_for, gives, governs, has_operand_of, is_excused, is_numbered, repeats, target_number, Governs, HasOperandOf, IsCounted, Repeats, form_at, any_passes_from_place, or_left, or_right}
+use Rattle.sig_rel.proofs.OnceDefined.{any_place, defined_once, some_definition}
 use Rattle.sig_rel.proofs.UnknownLemmas.{boolean_within}
 
 -- ---- the tests say what they ask
 
 pub governs_true : (least : List ℕ) (class : ℕ) (form : Form) → governs least class form ≡ true → Governs least class form
-governs_true least class (Fun y op operands) is = absurd (false≢true is)
-governs_true least class (Delay y x c) is = absurd (false≢true is)
 governs_true least class (When y x b) is = eqb-true (get_or least y.0 0) class is
 governs_true least class (WhenConst y c b) is = eqb-true (get_or least y.0 0) class is
 governs_true least class (Default y u v) is = eqb-true (get_or least y.0 0) class is
-governs_true least class (Sync x y) is = absurd (false≢true is)
-governs_true least class (Event y x) is = absurd (false≢true is)
+governs_true least class _ is = absurd (false≢true is)
 
 pub governs_from : (least : List ℕ) (class : ℕ) (form : Form) → Governs least class form → governs least class form ≡ true
-governs_from least class (Fun y op operands) is = absurd is
-governs_from least class (Delay y x c) is = absurd is
 governs_from least class (When y x b) is = eq-eqb (get_or least y.0 0) class is
 governs_from least class (WhenConst y c b) is = eq-eqb (get_or least y.0 0) class is
 governs_from least class (Default y u v) is = eq-eqb (get_or least y.0 0) class is
-governs_from least class (Sync x y) is = absurd is
-governs_from least class (Event y x) is = absurd is
+governs_from least class _ is = absurd is
 
 pub operand_true : (least : List ℕ) (class : ℕ) (form : Form) → has_operand_of least class form ≡ true → HasOperandOf least class form
-operand_true least class (Fun y op operands) is = absurd (false≢true is)
-operand_true least class (Delay y x c) is = absurd (false≢true is)
-operand_true least class (When y x b) is = absurd (false≢true is)
-operand_true least class (WhenConst y c b) is = absurd (false≢true is)
 operand_true least class (Default y u v) is = elim (or_cases (get_or least u.0 0 == class) (get_or least v.0 0 == class) is) [
   | inl e ↦ inl (sym (eqb-true (get_or least u.0 0) class e))
   | inr e ↦ inr (sym (eqb-true (get_or least v.0 0) class e))
 ]
-operand_true least class (Sync x y) is = absurd (false≢true is)
-operand_true least class (Event y x) is = absurd (false≢true is)
+operand_true least class _ is = absurd (false≢true is)
 
 pub operand_from : (least : List ℕ) (class : ℕ) (form : Form) → HasOperandOf least class form → has_operand_of least class form ≡ true
-operand_from least class (Fun y op operands) is = absurd is
-operand_from least class (Delay y x c) is = absurd is
-operand_from least class (When y x b) is = absurd is
-operand_from least class (WhenConst y c b) is = absurd is
 operand_from least class (Default y u v) is = elim is [
   | inl e ↦ or_left (get_or least u.0 0 == class) (get_or least v.0 0 == class) (eq-eqb (get_or least u.0 0) class (sym e))
   | inr e ↦ or_right (get_or least u.0 0 == class) (get_or least v.0 0 == class) (eq-eqb (get_or least v.0 0) class (sym e))
 ]
-operand_from least class (Sync x y) is = absurd is
-operand_from least class (Event y x) is = absurd is
+operand_from least class _ is = absurd is
 
 repeats_true : (least : List ℕ) (class : ℕ) (counted form : Form) → repeats least class counted form ≡ true → Repeats least class counted form
-repeats_true least class counted (Fun y op operands) is = absurd (false≢true is)
-repeats_true least class counted (Delay y x c) is = absurd (false≢true is)
-repeats_true least class counted (When y x b) is = absurd (false≢true is)
-repeats_true least class counted (WhenConst y c b) is = absurd (false≢true is)
 repeats_true least class counted (Default y u v) is =
     elim (or_cases ((get_or least u.0 0 == class) && has_operand_of least (get_or least v.0 0) counted) ((get_or least v.0 0 == class) && has_operand_of least (get_or least u.0 0) counted) is) [
       | inl both ↦ let parts = and_parts (get_or least u.0 0 == class) (has_operand_of least (get_or least v.0 0) counted) both in inl (eqb-true (get_or least u.0 0) class parts.0, operand_true least (get_or least v.0 0) counted parts.1)
       | inr both ↦ let parts = and_parts (get_or least v.0 0 == class) (has_operand_of least (get_or least u.0 0) counted) both in inr (eqb-true (get_or least v.0 0) class parts.0, operand_true least (get_or least u.0 0) counted parts.1)
     ]
-repeats_true least class counted (Sync x y) is = absurd (false≢true is)
-repeats_true least class counted (Event y x) is = absurd (false≢true is)
+repeats_true least class counted _ is = absurd (false≢true is)
 
 repeats_from : (least : List ℕ) (class : ℕ) (counted form : Form) → Repeats least class counted form → repeats least class counted form ≡ true
-repeats_from least class counted (Fun y op operands) is = absurd is
-repeats_from least class counted (Delay y x c) is = absurd is
-repeats_from least class counted (When y x b) is = absurd is
-repeats_from least class counted (WhenConst y c b) is = absurd is
 repeats_from least class counted (Default y u v) is = elim is [
   | inl both ↦ or_left ((get_or least u.0 0 == class) && has_operand_of least (get_or least v.0 0) counted) ((get_or least v.0 0 == class) && has_operand_of least (get_or least u.0 0) counted)
       (λ j. eq-eqb (get_or least u.0 0) class both.0 j && operand_from least (get_or least v.0 0) counted both.1 j)
   | inr both ↦ or_right ((get_or least u.0 0 == class) && has_operand_of least (get_or least v.0 0) counted) ((get_or least v.0 0 == class) && has_operand_of least (get_or least u.0 0) counted)
       (λ j. eq-eqb (get_or least v.0 0) class both.0 j && operand_from least (get_or least u.0 0) counted both.1 j)
 ]
-repeats_from least class counted (Sync x y) is = absurd is
-repeats_from least class counted (Event y x) is = absurd is
+repeats_from least class counted _ is = absurd is
 
 -- what repeats has an operand of the class
 repeats_own : (least : List ℕ) (class : ℕ) (counted form : Form) → Repeats least class counted form → HasOperandOf least class form
-repeats_own least class counted (Fun y op operands) is = absurd is
-repeats_own least class counted (Delay y x c) is = absurd is
-repeats_own least class counted (When y x b) is = absurd is
-repeats_own least class counted (WhenConst y c b) is = absurd is
 repeats_own least class counted (Default y u v) is = elim is [ inl both ↦ inl (sym both.0) | inr both ↦ inr (sym both.0) ]
-repeats_own least class counted (Sync x y) is = absurd is
-repeats_own least class counted (Event y x) is = absurd is
+repeats_own least class counted _ is = absurd is
 
 -- what governs defines its target
 governing_target : (least : List ℕ) (class : ℕ) (form : Form) → Governs least class form → is_target (target_number form) (target_of form) ≡ true
-governing_target least class (Fun y op operands) is = absurd is
-governing_target least class (Delay y x c) is = absurd is
 governing_target least class (When y x b) is = eq-eqb y.0 y.0 refl
 governing_target least class (WhenConst y c b) is = eq-eqb y.0 y.0 refl
 governing_target least class (Default y u v) is = eq-eqb y.0 y.0 refl
-governing_target least class (Sync x y) is = absurd is
-governing_target least class (Event y x) is = absurd is
+governing_target least class _ is = absurd is
 
 -- ---- lists
 
@@ -234,15 +200,14 @@ module _ (kernel : Kernel) (valid : IsValid kernel) (least : List ℕ) where
     listed : (signal : ℕ) → is_condition kernel signal ≡ list_any (is_numbered signal) conditions
     listed signal = by (is_condition kernel signal) (list_any (is_numbered signal) conditions) refl refl where
       by : (a b : Bool) → is_condition kernel signal ≡ a → list_any (is_numbered signal) conditions ≡ b → is_condition kernel signal ≡ list_any (is_numbered signal) conditions
-      by true true ea eb = ea ∙ sym eb
-      by false false ea eb = ea ∙ sym eb
       by true false ea eb =
           let there : Contains conditions (signal_id signal) = (are.all (signal_id signal)).1 ea in
-          absurd (false≢true (sym eb ∙ any_there (is_numbered signal) conditions there.0 (signal_id signal) (at_contained conditions (signal_id signal) there) (eq-eqb signal signal refl)))
+          absurd (false≢true (sym eb ∙ any_passes_from_place (is_numbered signal) conditions there.0 (signal_id signal) (at_contained conditions (signal_id signal) there) (eq-eqb signal signal refl)))
       by false true ea eb =
           let place = any_place (is_numbered signal) conditions eb in
           let is = (are.all place.1.0).0 (contains_at conditions place.0 place.1.0 place.1.1) in
           absurd (false≢true (sym ea ∙ ap (is_condition kernel) (sym (eqb-true place.1.0.0 signal place.1.2)) ∙ is))
+      by _ _ ea eb = ea ∙ sym eb
 
     defined_from : (signal number : ℕ) → defined_for kernel conditions signal ≡ Some number → (equation : Equation) × (slice_get kernel.equations number ≡ Some equation) × (defines signal equation ≡ true)
         × (is_boolean kernel signal ≡ true) × (is_condition kernel signal ≡ false)

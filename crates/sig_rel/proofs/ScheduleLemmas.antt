@@ -1,8 +1,9 @@
 -- A schedule that is put together one step after another.
-use Rattle.sig_rel.proofs.Common.{◌≡◌, ◌<◌, ◌++◌, ◌⊎◌, inl, inr, ℕ, zero, suc, Bool, true, false, not, List, [], ◌∷◌, length, get_or, map, replicate, take, Option, None, Some, refl, sym, ap, ◌∙◌, subst, arith, Contains, ◌&&◌, ◌==◌, slice_get, slice_set, slice_index, slice_index_or, range_with_len, and_parts, and_from, cases_eq, eq-eqb, eqb-true, false≢true, ltb-true, length-replicate, length-set, take-append-le, take_all, SigId, IsValid, form_within, is_below, Equation, Form, Fun, Delay, When, WhenConst, Default, Sync, Event, Kernel, AreLeast, contains_at, contains_none, is_boolean, AreNamed, HasPlace, IsOrderOfWriting, IsPlannedStep, IsSchedule, IsScheduling, IsStepBy, IsTaken, IsWhole, ReadsBefore, is_left, with_counted, with_defined, AreConditions, AreMarks, IsFreshWithin, counted_for, defined_for, governs, has_class, presence_ready, Governs, HasClasses, HasTruths, IsClass, form_at, operand_signals, tested, Element, Presence, Truth, Placed, Rules, Schedule, Scheduling, Step, target_number, signal_of, is_ready, IsByTable, form_by, may_take, slice_get-get_or}
+use Rattle.sig_rel.proofs.Common.{◌≡◌, ◌<◌, ◌++◌, inl, inr, ℕ, zero, suc, Bool, true, false, not, List, [], ◌∷◌, length, get_or, map, replicate, take, Option, None, Some, refl, sym, ap, ◌∙◌, subst, arith, Contains, ◌&&◌, ◌==◌, slice_get, slice_set, slice_index, slice_index_or, range_with_len, and_parts, and_from, eq-eqb, eqb-true, false≢true, ltb-true, length-replicate, length-set, take-append-le, take_all, SigId, IsValid, form_within, is_below, Equation, Form, Fun, Delay, When, WhenConst, Default, Sync, Event, Kernel, AreLeast, contains_at, is_boolean, AreNamed, IsOrderOfWriting, IsPlannedStep, IsScheduling, IsStepBy, IsTaken, IsWhole, ReadsBefore, is_left, with_counted, with_defined, AreConditions, IsFreshWithin, counted_for, defined_for, governs, has_class, presence_ready, Governs, HasClasses, HasTruths, IsClass, form_at, operand_signals, tested, Element, Presence, Truth, Placed, Rules, Scheduling, Step, target_number, signal_of, is_ready, IsByTable, form_by, may_take, slice_get-get_or}
+use Rattle.sig_rel.proofs.ElementLemmas.{same_element}
 use Rattle.sig_rel.proofs.ClassLemmas.{least_own, least_within}
 use Rattle.sig_rel.proofs.OnceDefined.{within_at}
-use Rattle.sig_rel.proofs.PlacingLemmas.{among_more, apart_kinds, both_said, fresh_within, got_more, governed_class, left_fresh, marks_more, not_listed, presence_is, presence_says, row_there, truth_is}
+use Rattle.sig_rel.proofs.PlacingLemmas.{among_more, both_said, fresh_within, got_more, governed_class, left_fresh, marks_more, not_listed, presence_says, row_there}
 use Rattle.sig_rel.proofs.RuleLemmas.{are_rules, governs_true}
 use Rattle.sig_rel.proofs.UnknownLemmas.{boolean_within}
 
@@ -14,11 +15,9 @@ set_same (x ∷ xs) zero y lt = refl
 set_same (x ∷ xs) (suc i) y lt = set_same xs i y (omega (arith, lt))
 
 pub set_other : {X : Type 0} (xs : List X) (i k : ℕ) (y : X) → (k ≡ i → ⊥) → slice_get (slice_set xs i y) k ≡ slice_get xs k
-set_other [] i k y apart = refl
 set_other (x ∷ xs) zero zero y apart = absurd (apart refl)
-set_other (x ∷ xs) zero (suc k) y apart = refl
-set_other (x ∷ xs) (suc i) zero y apart = refl
 set_other (x ∷ xs) (suc i) (suc k) y apart = set_other xs i k y (λ e. apart (ap suc e))
+set_other _ _ _ y apart = refl
 
 none_named : (n k number : ℕ) → slice_get (replicate n (let o : Option ℕ = None in o)) k ≡ Some (Some number) → ⊥
 none_named zero k number at = let no : None ≡ Some (Some number) = at in cc
@@ -42,17 +41,8 @@ defined_length : (defined : List (Option ℕ)) (element : Element) (equation : O
 defined_length defined (Presence c) equation = refl
 defined_length defined (Truth s) equation = length-set defined s equation
 
-same_element : (element other : Element) → (element ≡ other) ⊎ (element ≡ other → ⊥)
-same_element (Presence a) (Presence b) = elim (cases_eq a b) [ inl e ↦ inl (ap Presence e) | inr apart ↦ inr (λ e. apart (presence_is a b e)) ]
-same_element (Presence a) (Truth b) = inr (λ e. apart_kinds a b e)
-same_element (Truth a) (Presence b) = inr (λ e. apart_kinds b a (sym e))
-same_element (Truth a) (Truth b) = elim (cases_eq a b) [ inl e ↦ inl (ap Truth e) | inr apart ↦ inr (λ e. apart (truth_is a b e)) ]
-
 one_form_at : (kernel : Kernel) (m n : ℕ) (f g : Form) → m ≡ n → form_at kernel m ≡ Some f → form_at kernel n ≡ Some g → f ≡ g
 one_form_at kernel m n f g same at there = let both : Some f ≡ Some g = sym at ∙ ap (form_at kernel) same ∙ there in cc
-
-row_number : (row : Option (Option ℕ)) (m n : ℕ) → row ≡ Some (Some m) → row ≡ Some (Some n) → m ≡ n
-row_number row m n first second = let both : Some (Some m) ≡ Some (Some n) = sym first ∙ second in cc
 
 -- ---- classes that equations govern
 
@@ -72,18 +62,6 @@ named_first kernel valid conditions are rules are_least none defined_are =
       presence = λ class number at. absurd (none_named (length kernel.signals) class number (ap (λ xs. slice_get xs class) (sym none) ∙ at));
       truth = full.is_defined;
     }
-
-pub nothing_scheduled : (kernel : Kernel) (scheduling : Scheduling) → AreNamed kernel scheduling.rules → scheduling.placed.list.items ≡ [] → AreMarks (length kernel.signals) scheduling.placed → IsScheduling kernel scheduling
-nothing_scheduled kernel scheduling named empty marks = record {
-  order = subst (IsOrderOfWriting kernel scheduling.rules) (sym empty) (record {
-    named = named;
-    classes = λ class there. absurd (contains_none (Presence class) there);
-    truths = λ signal there. absurd (contains_none (Truth signal) there);
-    once = λ i j element at there. absurd (contains_none element (contains_at [] i element at));
-    order = λ k element at. absurd (contains_none element (contains_at [] k element at));
-  });
-  marks = marks;
-}
 
 -- ---- one more step
 
@@ -212,13 +190,6 @@ module _ (kernel : Kernel) (old new : Scheduling) (step : Step) (is : IsScheduli
     marks = marks_more (length kernel.signals) old.placed new.placed step.element is.marks (fresh_within kernel old.rules.least.items old.placed is.marks step.element planned.fresh) taken.list taken.classes taken.truths;
   }
 
--- the tables have a row for a step
-pub planned_place : (kernel : Kernel) (scheduling : Scheduling) (step : Step) → IsScheduling kernel scheduling → IsPlannedStep kernel scheduling step → HasPlace scheduling step.element
-planned_place kernel scheduling step is planned = by step.element planned.fresh where
-  by : (element : Element) → IsFreshWithin scheduling.placed element → HasPlace scheduling element
-  by (Presence class) fresh = (let lt = fresh.0 in let count = is.marks.class_count in let long = is.order.named.countings in omega arith, fresh.0)
-  by (Truth signal) fresh = (let lt = fresh.0 in let count = is.marks.truth_count in let long = is.order.named.definitions in omega arith, fresh.0)
-
 -- ---- what may be next
 
 module _ (kernel : Kernel) (valid : IsValid kernel) (scheduling : Scheduling) (is : IsScheduling kernel scheduling) where
@@ -317,10 +288,3 @@ module _ (kernel : Kernel) (valid : IsValid kernel) (scheduling : Scheduling) (i
       by true e = e
       by false e = absurd (false≢true (sym (no_truth signal lt)
           ∙ and_from (is_boolean kernel signal && has_class least placed signal) (not (slice_index_or placed.truths.items signal false)) (and_from (is_boolean kernel signal) (has_class least placed signal) boolean own) (ap not e)))
-
-pub whole_schedule : (kernel : Kernel) (scheduling : Scheduling) (schedule : Schedule) → IsScheduling kernel scheduling → IsWhole kernel scheduling → schedule.rules ≡ scheduling.rules → schedule.list ≡ scheduling.placed.list → IsSchedule kernel schedule
-whole_schedule kernel scheduling schedule is whole rules list = record {
-  order = subst (λ r. IsOrderOfWriting kernel r schedule.list.items) (sym rules) (subst (λ l. IsOrderOfWriting kernel scheduling.rules l.items) (sym list) is.order);
-  all_classes = λ class of. subst (λ l. Contains l.items (Presence class)) (sym list) (whole.classes class (subst (λ r. IsClass kernel r.least.items class) rules of));
-  all_truths = λ signal boolean. subst (λ l. Contains l.items (Truth signal)) (sym list) (whole.truths signal boolean);
-}

@@ -56,34 +56,15 @@ module _ {X : Type 0} (p : X → Bool) (xs : List X) where
     by false e = sym e
     by true e = absurd (false≢true (sym here ∙ all_at p xs k x e at))
 
--- each of the first elements passes
-abbrev pub AreAllBelow : {X : Type 0} → (X → Bool) → List X → ℕ → Type 0
-AreAllBelow {X} p xs k = (j : ℕ) (x : X) → j < k → slice_get xs j ≡ Some x → p x ≡ true
-
-module _ {X : Type 0} (p : X → Bool) (xs : List X) where
-  pub all_more : (k : ℕ) (x : X) → slice_get xs k ≡ Some x → p x ≡ true → AreAllBelow p xs k → AreAllBelow p xs (k + 1)
-  all_more k x at here all j y lt there = elim (cases_eq j k) [
-    | inl same ↦
-        let both : Some x ≡ Some y = sym at ∙ ap (slice_get xs) (sym same) ∙ there in
-        let e : x ≡ y = cc in
-        ap p (sym e) ∙ here
-    | inr apart ↦ all j y (omega (arith, lt, apart)) there
-  ]
-
-  pub all_pass : (k : ℕ) → length xs ≤ k → AreAllBelow p xs k → true ≡ list_all p xs
-  all_pass k le all = sym (all_from p xs (λ j x at. let lt = slice_get_within xs j x at in all j x (omega (arith, lt, le)) at))
-
 -- ---- the top: no equation gives it its presence
 
 unless_given : (g h : Bool) → (g && not h) ≡ false → (not g || h) ≡ true
-unless_given true true e = refl
 unless_given true false e = sym e
-unless_given false h e = refl
+unless_given _ _ e = refl
 
 where_given : (g h : Bool) → (g && not h) ≡ true → (not g || h) ≡ false
-where_given true true e = sym e
 where_given true false e = refl
-where_given false h e = sym e
+where_given _ _ e = sym e
 
 module _ (equations : List Equation) (least : List ℕ) (class : ℕ) where
   pub given_allows : (number : ℕ) → position (gives least class) equations ≡ Some number → false ≡ list_all (allows_top least class) equations

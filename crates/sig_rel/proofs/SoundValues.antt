@@ -1,5 +1,5 @@
 -- Values that keep to the tables of a triangular kernel are a reaction that is not silent.
-use Rattle.sig_rel.proofs.Common.{◌≡◌, ◌<◌, ◌⊎◌, inl, inr, ℕ, Bool, true, false, List, [], ◌∷◌, length, get_or, map, Option, None, Some, refl, sym, ap, ◌∙◌, subst, Contains, if◌then◌else◌, ◌||◌, slice_get, option_map, list_any, cases_Bool, eq-eqb, SigId, kind_at, operands_of, target_of, IsValid, defines, is_signal, is_target, Equation, Form, Fun, Delay, When, WhenConst, Default, Sync, Event as EventOf, FunOp, Operand, Kernel, freed, frees, is_number, Reaction, Speaks, compares, is_silent, status_at, truth_function, constant_truth, related, contains_head, contains_later, absent_in_silence, is_boolean, is_met, AreRules, AreValues, Values, has, operand_value, presence_by, truth_by_form, value_status, Governs, HasOperandOf, IsTriangle, Repeats, form_at, truth_given, Element}
+use Rattle.sig_rel.proofs.Common.{◌≡◌, ◌<◌, ◌⊎◌, inl, inr, ℕ, Bool, true, false, List, [], ◌∷◌, length, get_or, map, Option, None, Some, refl, sym, ap, ◌∙◌, subst, Contains, if◌then◌else◌, ◌||◌, slice_get, option_map, list_any, cases_Bool, eq-eqb, SigId, kind_at, operands_of, target_of, IsValid, defines, is_signal, is_target, Equation, Form, Fun, When, WhenConst, Default, Event as EventOf, FunOp, Operand, Kernel, freed, frees, is_number, Reaction, Speaks, compares, is_silent, status_at, truth_function, constant_truth, related, contains_head, contains_later, absent_in_silence, is_boolean, is_met, AreRules, AreValues, Values, has, operand_value, presence_by, truth_by_form, value_status, Governs, HasOperandOf, IsTriangle, Repeats, form_at, truth_given, Element, or_comm}
 use Rattle.sig_rel.proofs.ClassLemmas.{least_own, least_within}
 use Rattle.sig_rel.proofs.FormLemmas.{at_form, fits, inside, three, two}
 use Rattle.sig_rel.proofs.OnceDefined.{defined_once, not_freed, speaks_at}
@@ -10,25 +10,17 @@ use Rattle.sig_rel.proofs.ValueReactions.{reaction, reaction_at, related_have, v
 use Rattle.sig_rel.proofs.ValueFits.{constant_fits, default_fits, event_fits, status, truth_fits, when_fits}
 
 either_of : (p a b : Bool) → (p ≡ a) ⊎ (p ≡ b) → p ≡ true → (a || b) ≡ true
-either_of p true b one is = refl
-either_of p false true one is = refl
 either_of p false false (inl e) is = sym e ∙ is
 either_of p false false (inr e) is = sym e ∙ is
+either_of p _ _ one is = refl
 
 -- what is below one of two is below their disjunction
 merged : (c v a b : Bool) → c ≡ (a || b) → (v ≡ a) ⊎ (v ≡ b) → (c || v) ≡ c
-merged true v a b is one = refl
 merged false true true b is one = sym is
 merged false true false true is one = sym is
 merged false true false false is (inl e) = e
 merged false true false false is (inr e) = e
-merged false false a b is one = refl
-
-or_turned : (a b : Bool) → (a || b) ≡ (b || a)
-or_turned true true = refl
-or_turned true false = refl
-or_turned false true = refl
-or_turned false false = refl
+merged _ _ a b is one = refl
 
 module _ (kernel : Kernel) (valid : IsValid kernel) (least : List ℕ) (counted defined : List (Option ℕ)) (rules : AreRules kernel least counted defined)
     (conditions : List SigId) (list : List Element) (tri : IsTriangle kernel least list) (proposal : List Bool) (values : Values)
@@ -77,15 +69,10 @@ module _ (kernel : Kernel) (valid : IsValid kernel) (least : List ℕ) (counted 
 
   -- what an operand of a class's Default adds nothing to
   merged_present : (class other : ℕ) (f : Form) → HasOperandOf least other f → values.present class ≡ presence_by least values f → (values.present class || values.present other) ≡ values.present class
-  merged_present class other (Fun y op operands) own is = absurd own
-  merged_present class other (Delay y x c) own is = absurd own
-  merged_present class other (When y x b) own is = absurd own
-  merged_present class other (WhenConst y c b) own is = absurd own
   merged_present class other (Default z a b) own is =
       merged (values.present class) (values.present other) (has least values a.0) (has least values b.0) is
       (elim own [ inl e ↦ inl (ap values.present e) | inr e ↦ inr (ap values.present e) ])
-  merged_present class other (Sync x y) own is = absurd own
-  merged_present class other (EventOf y x) own is = absurd own
+  merged_present class other _ own is = absurd own
 
   default_present : (number : ℕ) (y u v : SigId) → form_at kernel number ≡ Some (Default y u v) → y.0 < length kernel.signals → has least values y.0 ≡ (has least values u.0 || has least values v.0)
   default_present number y u v at ly = elim (class_cases kernel least list tri counted defined rules (get_or least y.0 0) (least_within kernel least rules.are_least y.0 ly, least_own kernel least rules.are_least y.0 ly)) [
@@ -98,7 +85,7 @@ module _ (kernel : Kernel) (valid : IsValid kernel) (least : List ℕ) (counted 
         elim (has_one.is_counted.others number (Default y u v) at refl) [
           | inl same ↦ keeps.classes (get_or least y.0 0) number (Default y u v) (subst (λ n. slice_get counted (get_or least y.0 0) ≡ Some (Some n)) (sym same) has_one.there) at
           | inr (inl repeats) ↦ sym (ap (λ b. b || has least values v.0) (ap values.present repeats.0) ∙ merged_present (get_or least y.0 0) (get_or least v.0 0) has_one.form repeats.1 is)
-          | inr (inr repeats) ↦ sym (or_turned (has least values u.0) (has least values v.0) ∙ ap (λ b. b || has least values u.0) (ap values.present repeats.0)
+          | inr (inr repeats) ↦ sym (or_comm (has least values u.0) (has least values v.0) ∙ ap (λ b. b || has least values u.0) (ap values.present repeats.0)
               ∙ merged_present (get_or least y.0 0) (get_or least u.0 0) has_one.form repeats.1 is)
         ]
   ]
@@ -119,7 +106,6 @@ module _ (kernel : Kernel) (valid : IsValid kernel) (least : List ℕ) (counted 
   -- each equation is met
   met : (number : ℕ) (form : Form) → form_at kernel number ≡ Some form → is_met kernel.signals least values form ≡ true
   met number (Fun y op operands) at = function_fits number y op operands at
-  met number (Delay y x c) at = refl
   met number (When y x b) at =
       let l = three kernel y x b (inside kernel valid number (When y x b) at) in
       when_fits (has least values y.0) (values.truth y.0) (has least values x.0) (values.truth x.0) (has least values b.0) (values.truth b.0)
@@ -138,12 +124,12 @@ module _ (kernel : Kernel) (valid : IsValid kernel) (least : List ℕ) (counted 
       (λ plain. both_true (has least values u.0) (values.truth u.0) (values.truth v.0)
       (keeps.plain u.0 (plain_first kernel.signals y u v (fits kernel valid number (Default y u v) at) plain))
       (keeps.plain v.0 (plain_second kernel.signals y v u (fits kernel valid number (Default y u v) at) plain))))
-  met number (Sync x y) at = refl
   met number (EventOf y x) at =
       let l = two kernel y x (inside kernel valid number (EventOf y x) at) in
       event_fits (has least values y.0) (values.truth y.0) (has least values x.0) (values.truth x.0)
       (related_here number (EventOf y x) at y.0 x.0 l.0 l.1 (contains_head y.0 (x.0 ∷ [])) (contains_later y.0 x.0 (x.0 ∷ []) (contains_head x.0 [])))
       (given_here number (EventOf y x) at y.0 true (eq-eqb y.0 y.0 refl) refl refl (λ plain. refl))
+  met number _ at = refl
 
   top_here : status_at seen tri.top ≡ None → ⊥
   top_here none =

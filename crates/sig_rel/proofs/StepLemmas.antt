@@ -1,11 +1,10 @@
 -- How many elements of an order of writing an equation gives: at most two for each equation.
-use Rattle.sig_rel.proofs.Common.{◌≡◌, ◌<◌, ◌≤◌, ◌+◌, ◌*◌, inl, inr, ℕ, suc, Bool, true, false, List, [], ◌∷◌, length, Option, None, Some, refl, sym, ap, ◌∙◌, subst, arith, eqb, slice_get, option_map, AllByRecursion, list_any, IsDistinct, eqb-true, false≢true, or_cases, or_parts, sum_by-cons, length-le_from_distinct_below, defines, is_target, target_of, Equation, Form, Fun, Delay, When, WhenConst, Default, Sync, Event, Kernel, size_of, step_at, steps, IsOrderOfWriting, Governs, form_at, Element, Presence, Truth, Rules}
+use Rattle.sig_rel.proofs.Common.{◌≡◌, ◌<◌, ◌≤◌, ◌+◌, ◌*◌, inl, inr, ℕ, suc, Bool, true, false, List, [], ◌∷◌, length, Option, None, Some, refl, sym, ap, ◌∙◌, subst, arith, eqb, slice_get, option_map, AllByRecursion, list_any, IsDistinct, eqb-true, false≢true, or_cases, or_parts, sum_by-cons, length-le_from_distinct_below, defines, is_target, target_of, Equation, Form, When, WhenConst, Default, Kernel, size_of, step_at, steps, IsOrderOfWriting, Governs, form_at, Element, Presence, Truth, Rules, SigId}
 use Rattle.sig_rel.proofs.OnceDefined.{got_within}
 
 abbrev with_entry : Option (Option ℕ) → List ℕ → List ℕ
-with_entry None ns = ns
-with_entry (Some None) ns = ns
 with_entry (Some (Some n)) ns = n ∷ ns
+with_entry _ ns = ns
 
 -- the equations that a table gives for elements
 abbrev entries : (Element → Option (Option ℕ)) → List Element → List ℕ
@@ -48,12 +47,11 @@ module _ (f : Element → Option (Option ℕ)) where
 
   member_by : (e : Element) (list : List Element) (q : ℕ) → (list_any (eqb q) (entries f list) ≡ true → IsMember list q) → (o : Option (Option ℕ)) → f e ≡ o → list_any (eqb q) (with_entry o (entries f list)) ≡ true → IsMember (e ∷ list) q
   unfolding IsMember
-  member_by e list q later None is any = let rest = later any in (suc rest.0, rest.1)
-  member_by e list q later (Some None) is any = let rest = later any in (suc rest.0, rest.1)
   member_by e list q later (Some (Some n)) is any = elim (or_cases (eqb q n) (list_any (eqb q) (entries f list)) any) [
     | inl here ↦ (0, (e, refl, is ∙ ap (λ m. Some (Some m)) (sym (eqb-true q n here))))
     | inr there ↦ let rest = later there in (suc rest.0, rest.1)
   ]
+  member_by e list q later _ is any = let rest = later any in (suc rest.0, rest.1)
 
   member : (list : List Element) (q : ℕ) → list_any (eqb q) (entries f list) ≡ true → IsMember list q
   member [] q any = absurd (false≢true any)
@@ -64,8 +62,6 @@ module _ (f : Element → Option (Option ℕ)) where
 
   distinct_by : (e : Element) (list : List Element) → AreOnce (e ∷ list) → IsDistinct eqb (entries f list) → (o : Option (Option ℕ)) → f e ≡ o → IsDistinct eqb (with_entry o (entries f list))
   unfolding IsDistinct IsMember
-  distinct_by e list once rest None is = rest
-  distinct_by e list once rest (Some None) is = rest
   distinct_by e list once rest (Some (Some n)) is = (all_apart n (entries f list) (fresh (list_any (eqb n) (entries f list)) refl), rest) where
     fresh : (b : Bool) → list_any (eqb n) (entries f list) ≡ b → list_any (eqb n) (entries f list) ≡ false
     fresh false none = none
@@ -73,6 +69,7 @@ module _ (f : Element → Option (Option ℕ)) where
         let there = member list n some in
         let same = once 0 (suc there.0) e there.1.0 n refl there.1.1 is there.1.2 in
         absurd (omega (arith, same))
+  distinct_by e list once rest _ is = rest
 
   distinct : (list : List Element) → AreOnce list → IsDistinct eqb (entries f list)
   unfolding IsDistinct
@@ -85,22 +82,14 @@ module _ (f : Element → Option (Option ℕ)) where
 
 -- two elements that one equation is counted for are of one class
 governed_once : (least : List ℕ) (a b : ℕ) (form : Form) → Governs least a form → Governs least b form → a ≡ b
-governed_once least a b (Fun y op operands) first second = absurd first
-governed_once least a b (Delay y x c) first second = absurd first
 governed_once least a b (When y x c) first second = sym first ∙ second
 governed_once least a b (WhenConst y c x) first second = sym first ∙ second
 governed_once least a b (Default y u v) first second = sym first ∙ second
-governed_once least a b (Sync x y) first second = absurd first
-governed_once least a b (Event y x) first second = absurd first
+governed_once least a b _ first second = absurd first
 
-targets_once : (a b : ℕ) (form : Form) → is_target a (target_of form) ≡ true → is_target b (target_of form) ≡ true → a ≡ b
-targets_once a b (Fun y op operands) first second = sym (eqb-true y.0 a first) ∙ eqb-true y.0 b second
-targets_once a b (Delay y x c) first second = sym (eqb-true y.0 a first) ∙ eqb-true y.0 b second
-targets_once a b (When y x c) first second = sym (eqb-true y.0 a first) ∙ eqb-true y.0 b second
-targets_once a b (WhenConst y c x) first second = sym (eqb-true y.0 a first) ∙ eqb-true y.0 b second
-targets_once a b (Default y u v) first second = sym (eqb-true y.0 a first) ∙ eqb-true y.0 b second
-targets_once a b (Sync x y) first second = absurd (false≢true first)
-targets_once a b (Event y x) first second = sym (eqb-true y.0 a first) ∙ eqb-true y.0 b second
+targets_once : (a b : ℕ) (target : Option SigId) → is_target a target ≡ true → is_target b target ≡ true → a ≡ b
+targets_once a b None first second = absurd (false≢true first)
+targets_once a b (Some y) first second = sym (eqb-true y.0 a first) ∙ eqb-true y.0 b second
 
 form_below : (kernel : Kernel) (number : ℕ) (form : Form) → form_at kernel number ≡ Some form → number < length kernel.equations
 form_below kernel number form at = by (slice_get kernel.equations number) refl at where
@@ -128,7 +117,7 @@ module _ (kernel : Kernel) (rules : Rules) (list : List Element) (order : IsOrde
       let second = order.named.truth r q has in
       let equations : Some first.0 ≡ Some second.0 = sym first.1 ∙ second.1 in
       let e : first.0 ≡ second.0 = cc in
-      let same = targets_once s r second.0.form (subst (λ (x : Equation). defines s x ≡ true) e first.2) second.2 in
+      let same = targets_once s r (target_of second.0.form) (subst (λ (x : Equation). defines s x ≡ true) e first.2) second.2 in
       order.once i j (Truth r) (at ∙ ap (λ x. Some (Truth x)) same) there
 
   class_below : (k : ℕ) (e : Element) (q : ℕ) → slice_get list k ≡ Some e → class_entry rules e ≡ Some (Some q) → q < length kernel.equations

@@ -1,6 +1,6 @@
 -- What a reaction that is met has at an element, where values tell what it has at those that the element's equation reads.
-use Rattle.sig_rel.proofs.Common.{◌≡◌, ◌<◌, inl, inr, ℕ, Bool, true, false, List, [], ◌∷◌, length, get_or, map, None, Some, refl, sym, ap, ◌∙◌, Contains, if◌then◌else◌, ◌&&◌, ◌||◌, is_some, list_all, and_parts, cases_Bool, eqb-true, false≢true, Boolean, SigId, kind_at, kind_of, target_of, IsValid, is_below, is_target, operand_within, Form, Fun, Delay, When, WhenConst, Default, Sync, Event, FunOp, Operand, Sig, Const, Kernel, freed, is_condition, is_number, IsReaction, Reaction, Status, compares, function_truth, has_truth, is_boolean_kind, is_present, is_status_of, is_with, same_truth, operand_truth, status_at, truth_function, truth_of_status, where_present, where_true, or_else, constant_truth, same_status, AreLeast, signals_among, contains_head, contains_later, present_together, statuses_are_same, truths_are_same, is_boolean, Values, has, operand_value, presence_by, truth_by_form, value_status, Governs, HasClasses, HasTruths, form_at, operand_signals, tested, truth_given, Element, Presence, Truth}
-use Rattle.sig_rel.proofs.ChosenTruths.{found, status_fits_at, true_unless_boolean}
+use Rattle.sig_rel.proofs.Common.{◌≡◌, ◌<◌, inl, inr, ℕ, Bool, true, false, List, [], ◌∷◌, length, get_or, map, None, Some, refl, sym, ap, ◌∙◌, Contains, if◌then◌else◌, ◌&&◌, ◌||◌, is_some, list_all, and_parts, cases_Bool, eqb-true, false≢true, Boolean, SigId, kind_at, kind_of, target_of, IsValid, is_below, is_target, operand_within, Form, Fun, Delay, When, WhenConst, Default, Sync, Event, FunOp, Operand, Sig, Const, Kernel, freed, is_condition, is_number, IsReaction, Reaction, Status, compares, function_truth, has_truth, is_boolean_kind, is_present, is_status_of, is_with, same_truth, operand_truth, status_at, truth_function, truth_of_status, where_present, where_true, or_else, constant_truth, same_status, AreLeast, signals_among, contains_head, contains_later, present_together, statuses_are_same, truths_are_same, is_boolean, Values, has, operand_value, presence_by, truth_by_form, value_status, Governs, HasClasses, HasTruths, form_at, operand_signals, tested, truth_given, Element, Presence, Truth, some_at}
+use Rattle.sig_rel.proofs.ChosenTruths.{status_fits_at, true_unless_boolean}
 use Rattle.sig_rel.proofs.FormLemmas.{at_form, below, fits, inside, met, three, two}
 use Rattle.sig_rel.proofs.OnceDefined.{condition_freed}
 use Rattle.sig_rel.proofs.TriangleKinds.{boolean_kind, given_truth}
@@ -23,7 +23,7 @@ module _ (kernel : Kernel) (valid : IsValid kernel) (least : List ℕ) (are_leas
       by : (s : Status) → status_at r x ≡ s → truth_of_status (status_at r x) ≡ true
       by None e = absurd (false≢true (ap is_some (sym e) ∙ present))
       by (Some b) e =
-          let signal = found kernel.signals x lt in
+          let signal = some_at kernel.signals x lt in
           let fit = status_fits_at kernel.signals r x signal.0 reaction.kinds signal.1 in
           ap truth_of_status e ∙ true_unless_boolean signal.0.kind b (ap (is_status_of signal.0.kind) (sym e) ∙ fit)
           (λ boolean. false≢true (sym (ap (λ o. is_boolean_kind (kind_of o)) (sym signal.1) ∙ plain) ∙ boolean))
@@ -48,8 +48,6 @@ module _ (kernel : Kernel) (valid : IsValid kernel) (least : List ℕ) (are_leas
 
       pub class_told : (class number : ℕ) (form : Form) → form_at kernel number ≡ Some form → Governs least class form → HasClasses least before (operand_signals form) → HasTruths kernel before (tested form)
           → values.present class ≡ presence_by least values form → is_present r class ≡ values.present class
-      class_told class number (Fun y op operands) at governs classes tests is = absurd governs
-      class_told class number (Delay y x c) at governs classes tests is = absurd governs
       class_told class number (When y x b) at governs classes tests is =
           let l = three kernel y x b (inside kernel valid number (When y x b) at) in
           let e = statuses_are_same (status_at r y.0) (where_true (status_at r b.0) (status_at r x.0)) (met kernel valid number (When y x b) at r reaction) in
@@ -70,8 +68,7 @@ module _ (kernel : Kernel) (valid : IsValid kernel) (least : List ℕ) (are_leas
           let pu = told_present u.0 l.1 (classes u.0 (contains_head u.0 (v.0 ∷ []))) in
           let pv = told_present v.0 l.2 (classes v.0 (contains_later u.0 v.0 (v.0 ∷ []) (contains_head v.0 []))) in
           ap (is_present r) (sym governs) ∙ sym (of_class y.0 l.0) ∙ e ∙ or_else_present (status_at r u.0) (status_at r v.0) ∙ (λ j. pu j || pv j) ∙ sym is
-      class_told class number (Sync x y) at governs classes tests is = absurd governs
-      class_told class number (Event y x) at governs classes tests is = absurd governs
+      class_told class number _ at governs classes tests is = absurd governs
 
       -- the operands of a function have the truths that the values tell
       operands_told : (present : Bool) → present ≡ true → (operands : List Operand) → list_all (operand_within (length kernel.signals)) operands ≡ true → list_all (is_with r present) operands ≡ true

@@ -10,11 +10,9 @@ module _ (signals : List Signal) (y x : SigId) where
     by : (k l : Option Kind) → kind_at signals y ≡ k → kind_at signals x ≡ l → is_boolean_kind (kind_at signals x) ≡ false
     by None l ek el = absurd (false≢true (rw ek at fits))
     by (Some Boolean) l ek el = absurd (false≢true (sym (rw ek at plain)))
-    by (Some k) None ek el = ap is_boolean_kind el
-    by (Some k) (Some Integer) ek el = ap is_boolean_kind el
-    by (Some k) (Some Event) ek el = ap is_boolean_kind el
     by (Some Integer) (Some Boolean) ek el = absurd (false≢true (rw (ek, el) at fits))
     by (Some Event) (Some Boolean) ek el = absurd (false≢true (rw (ek, el) at fits))
+    by (Some k) _ ek el = ap is_boolean_kind el
 
   -- both operands of a Default
   pub plain_first : (v : SigId) → form_fits signals (Default y x v) ≡ true → is_boolean_kind (kind_at signals y) ≡ false → is_boolean_kind (kind_at signals x) ≡ false
@@ -22,62 +20,47 @@ module _ (signals : List Signal) (y x : SigId) where
     by : (k l : Option Kind) → kind_at signals y ≡ k → kind_at signals x ≡ l → is_boolean_kind (kind_at signals x) ≡ false
     by None l ek el = absurd (false≢true (rw ek at fits))
     by (Some Boolean) l ek el = absurd (false≢true (sym (rw ek at plain)))
-    by (Some k) None ek el = ap is_boolean_kind el
-    by (Some k) (Some Integer) ek el = ap is_boolean_kind el
-    by (Some k) (Some Event) ek el = ap is_boolean_kind el
     by (Some Integer) (Some Boolean) ek el = absurd (false≢true (rw (ek, el) at fits))
     by (Some Event) (Some Boolean) ek el = absurd (false≢true (rw (ek, el) at fits))
+    by (Some k) _ ek el = ap is_boolean_kind el
 
   pub plain_second : (u : SigId) → form_fits signals (Default y u x) ≡ true → is_boolean_kind (kind_at signals y) ≡ false → is_boolean_kind (kind_at signals x) ≡ false
   plain_second u fits plain = by (kind_at signals y) (kind_at signals u) (kind_at signals x) refl refl refl where
     by : (k m l : Option Kind) → kind_at signals y ≡ k → kind_at signals u ≡ m → kind_at signals x ≡ l → is_boolean_kind (kind_at signals x) ≡ false
     by None m l ek em el = absurd (false≢true (rw ek at fits))
     by (Some Boolean) m l ek em el = absurd (false≢true (sym (rw ek at plain)))
-    by (Some k) m None ek em el = ap is_boolean_kind el
-    by (Some k) m (Some Integer) ek em el = ap is_boolean_kind el
-    by (Some k) m (Some Event) ek em el = ap is_boolean_kind el
-    by (Some Integer) None (Some Boolean) ek em el = absurd (false≢true (rw (ek, em) at fits))
     by (Some Integer) (Some Integer) (Some Boolean) ek em el = absurd (false≢true (rw (ek, em, el) at fits))
-    by (Some Integer) (Some Boolean) (Some Boolean) ek em el = absurd (false≢true (rw (ek, em) at fits))
-    by (Some Integer) (Some Event) (Some Boolean) ek em el = absurd (false≢true (rw (ek, em) at fits))
-    by (Some Event) None (Some Boolean) ek em el = absurd (false≢true (rw (ek, em) at fits))
-    by (Some Event) (Some Integer) (Some Boolean) ek em el = absurd (false≢true (rw (ek, em) at fits))
-    by (Some Event) (Some Boolean) (Some Boolean) ek em el = absurd (false≢true (rw (ek, em) at fits))
     by (Some Event) (Some Event) (Some Boolean) ek em el = absurd (false≢true (rw (ek, em, el) at fits))
+    by _ _ (Some Boolean) ek em el = absurd (false≢true (rw (ek, em) at fits))
+    by (Some k) m _ ek em el = ap is_boolean_kind el
 
 -- the constant of a signal that is no boolean is true
 pub plain_constant : (kind : Option Kind) (constant : ℤ) → is_boolean_kind kind ≡ false → constant_truth kind constant ≡ true
-plain_constant None constant plain = refl
-plain_constant (Some Integer) constant plain = refl
 plain_constant (Some Boolean) constant plain = absurd (false≢true (sym plain))
-plain_constant (Some Event) constant plain = refl
+plain_constant _ constant plain = refl
 
 -- a function that gives a truth to a signal that is no boolean hands on that of another such signal
 module _ (signals : List Signal) (y : SigId) (plain : is_boolean_kind (kind_at signals y) ≡ false) (truth : Operand → Bool)
     (operand_plain : (x : SigId) → is_boolean_kind (kind_at signals x) ≡ false → truth (Sig x) ≡ true) where
   plain_handed : (k : Kind) (x : SigId) (l : Option Kind) → kind_at signals y ≡ Some k → kind_at signals x ≡ l → form_fits signals (Fun y Id (Sig x ∷ [])) ≡ true → truth (Sig x) ≡ true
   plain_handed Boolean x l ek el fits = absurd (false≢true (sym (rw ek at plain)))
-  plain_handed k x None ek el fits = operand_plain x (ap is_boolean_kind el)
-  plain_handed k x (Some Integer) ek el fits = operand_plain x (ap is_boolean_kind el)
-  plain_handed k x (Some Event) ek el fits = operand_plain x (ap is_boolean_kind el)
   plain_handed Integer x (Some Boolean) ek el fits = absurd (false≢true (rw (ek, el) at fits))
   plain_handed Event x (Some Boolean) ek el fits = absurd (false≢true (rw (ek, el) at fits))
+  plain_handed k x _ ek el fits = operand_plain x (ap is_boolean_kind el)
 
   plain_id : (k : Kind) (operands : List Operand) (b : Bool) → kind_at signals y ≡ Some k → form_fits signals (Fun y Id operands) ≡ true → list_any is_signal operands ≡ true
       → truth_function Id (map truth operands) ≡ Some b → b ≡ true
-  plain_id k [] b ek fits speaks gives = let no : None ≡ Some b = gives in absurd cc
   plain_id k (Const c ∷ []) b ek fits speaks gives = absurd (false≢true speaks)
   plain_id k (Sig x ∷ []) b ek fits speaks gives =
       let same : Some (truth (Sig x)) ≡ Some b = gives in
       let e : truth (Sig x) ≡ b = cc in
       sym e ∙ plain_handed k x (kind_at signals x) ek refl fits
-  plain_id k (a ∷ c ∷ operands) b ek fits speaks gives = let no : None ≡ Some b = gives in absurd cc
+  plain_id k _ b ek fits speaks gives = let no : None ≡ Some b = gives in absurd cc
 
   pub plain_function : (op : FunOp) (operands : List Operand) (b : Bool) → form_fits signals (Fun y op operands) ≡ true → list_any is_signal operands ≡ true
       → truth_given signals op operands truth ≡ Some b → b ≡ true
   plain_function op operands b fits speaks gives = by op (kind_at signals y) refl fits gives where
     by : (op : FunOp) (k : Option Kind) → kind_at signals y ≡ k → form_fits signals (Fun y op operands) ≡ true → truth_given signals op operands truth ≡ Some b → b ≡ true
-    by op None ek fits gives = absurd (false≢true (rw ek at fits))
     by op (Some Boolean) ek fits gives = absurd (false≢true (sym (rw ek at plain)))
     by Id (Some k) ek fits gives = plain_id k operands b ek fits speaks gives
     by Neg (Some k) ek fits gives = let no : None ≡ Some b = gives in absurd cc
@@ -90,18 +73,7 @@ module _ (signals : List Signal) (y : SigId) (plain : is_boolean_kind (kind_at s
     by Le (Some k) ek fits gives = let no : None ≡ Some b = gives in absurd cc
     by Gt (Some k) ek fits gives = let no : None ≡ Some b = gives in absurd cc
     by Ge (Some k) ek fits gives = let no : None ≡ Some b = gives in absurd cc
-    by Not (Some Integer) ek fits gives = absurd (false≢true (rw ek at fits))
-    by And (Some Integer) ek fits gives = absurd (false≢true (rw ek at fits))
-    by Or (Some Integer) ek fits gives = absurd (false≢true (rw ek at fits))
-    by Xor (Some Integer) ek fits gives = absurd (false≢true (rw ek at fits))
-    by Eq (Some Integer) ek fits gives = absurd (false≢true (rw ek at fits))
-    by Ne (Some Integer) ek fits gives = absurd (false≢true (rw ek at fits))
-    by Not (Some Event) ek fits gives = absurd (false≢true (rw ek at fits))
-    by And (Some Event) ek fits gives = absurd (false≢true (rw ek at fits))
-    by Or (Some Event) ek fits gives = absurd (false≢true (rw ek at fits))
-    by Xor (Some Event) ek fits gives = absurd (false≢true (rw ek at fits))
-    by Eq (Some Event) ek fits gives = absurd (false≢true (rw ek at fits))
-    by Ne (Some Event) ek fits gives = absurd (false≢true (rw ek at fits))
+    by _ _ ek fits gives = absurd (false≢true (rw ek at fits))
 
 -- as many operands as a row has
 two_of : (signals : List Signal) (s t : Sort) (operands : List Operand) → operands_are signals operands (s ∷ t ∷ []) ≡ true → (a : Operand) × ((b : Operand) × (operands ≡ a ∷ b ∷ []))
@@ -157,15 +129,8 @@ module _ (signals : List Signal) (y : SigId) (truth : Operand → Bool) (boolean
   given_truth Le fits differs = absurd (false≢true (sym differs))
   given_truth Gt fits differs = absurd (false≢true (sym differs))
   given_truth Ge fits differs = absurd (false≢true (sym differs))
-  given_truth Neg fits differs = absurd (false≢true (rw boolean at fits))
-  given_truth Add fits differs = absurd (false≢true (rw boolean at fits))
-  given_truth Sub fits differs = absurd (false≢true (rw boolean at fits))
-  given_truth Mul fits differs = absurd (false≢true (rw boolean at fits))
-  given_truth Div fits differs = absurd (false≢true (rw boolean at fits))
-  given_truth Mod fits differs = absurd (false≢true (rw boolean at fits))
+  given_truth _ fits differs = absurd (false≢true (rw boolean at fits))
 
 pub boolean_kind : (kind : Option Kind) → is_boolean_kind kind ≡ true → kind ≡ Some Boolean
-boolean_kind None is = absurd (false≢true is)
-boolean_kind (Some Integer) is = absurd (false≢true is)
 boolean_kind (Some Boolean) is = refl
-boolean_kind (Some Event) is = absurd (false≢true is)
+boolean_kind _ is = absurd (false≢true is)

@@ -1,34 +1,16 @@
 -- What the list of a triangular kernel says of each of its classes.
-use Rattle.sig_rel.proofs.Common.{◌≡◌, ◌<◌, ◌⊎◌, inl, inr, ℕ, zero, suc, List, [], ◌∷◌, take, Option, None, Some, sym, ◌∙◌, subst, arith, Contains, slice_get, Form, Fun, Delay, When, WhenConst, Default, Sync, Event, Kernel, at_contained, contains_at, contains_head, contains_later, AreRules, HasClasses, HasOperandOf, IsClass, IsCounted, IsTriangle, MayEnter, operand_signals, Element, Presence}
-
--- what is among the first elements stands before them
-pub place_in_take : {X : Type 0} (k : ℕ) (xs : List X) (j : ℕ) (x : X) → slice_get (take k xs) j ≡ Some x → (j < k) × (slice_get xs j ≡ Some x)
-place_in_take zero xs j x at = absurd (let none : None ≡ Some x = at in cc)
-place_in_take (suc k) [] j x at = absurd (let none : None ≡ Some x = at in cc)
-place_in_take (suc k) (y ∷ xs) zero x at = (omega arith, at)
-place_in_take (suc k) (y ∷ xs) (suc j) x at = let rest = place_in_take k xs j x at in (omega (arith, rest.0), rest.1)
-
-pub taken_place : {X : Type 0} (k : ℕ) (xs : List X) (j : ℕ) (x : X) → j < k → slice_get xs j ≡ Some x → slice_get (take k xs) j ≡ Some x
-taken_place zero xs j x lt at = absurd (omega (arith, lt))
-taken_place (suc k) [] j x lt at = at
-taken_place (suc k) (y ∷ xs) zero x lt at = at
-taken_place (suc k) (y ∷ xs) (suc j) x lt at = taken_place k xs j x (omega (arith, lt)) at
+use Rattle.sig_rel.proofs.Common.{◌≡◌, ◌<◌, ◌⊎◌, inl, inr, ℕ, zero, suc, List, [], ◌∷◌, take, Option, Some, sym, ◌∙◌, subst, arith, Contains, slice_get, Form, Default, Kernel, at_contained, contains_at, contains_head, contains_later, AreRules, HasClasses, HasOperandOf, IsClass, IsCounted, IsTriangle, MayEnter, operand_signals, Element, Presence, taken_get}
 
 pub before_place : {X : Type 0} (k : ℕ) (xs : List X) (x : X) → Contains (take k xs) x → (j : ℕ) × (j < k) × (slice_get xs j ≡ Some x)
-before_place k xs x there = let at = place_in_take k xs there.0 x (at_contained (take k xs) x there) in (there.0, at.0, at.1)
+before_place k xs x there = let at = taken_get k xs there.0 x (at_contained (take k xs) x there) in (there.0, at.0, at.1)
 
 -- a class does not stand behind itself, so it is of no operand of its counted equation
 own_operand : (least : List ℕ) (before : List Element) (class : ℕ) (form : Form) → HasClasses least before (operand_signals form) → HasOperandOf least class form → Contains before (Presence class)
-own_operand least before class (Fun y op operands) has own = absurd own
-own_operand least before class (Delay y x c) has own = absurd own
-own_operand least before class (When y x b) has own = absurd own
-own_operand least before class (WhenConst y c b) has own = absurd own
 own_operand least before class (Default y u v) has own = elim own [
   | inl e ↦ subst (λ c. Contains before (Presence c)) (sym e) (has u.0 (contains_head u.0 (v.0 ∷ [])))
   | inr e ↦ subst (λ c. Contains before (Presence c)) (sym e) (has v.0 (contains_later u.0 v.0 (v.0 ∷ []) (contains_head v.0 [])))
 ]
-own_operand least before class (Sync x y) has own = absurd own
-own_operand least before class (Event y x) has own = absurd own
+own_operand least before class _ has own = absurd own
 
 -- the equation that is counted for a class
 pub record HasCounted (kernel : Kernel) (least : List ℕ) (counted : List (Option ℕ)) (class : ℕ) : Type 0 where

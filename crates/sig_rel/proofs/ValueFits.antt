@@ -16,8 +16,7 @@ when_fits py ty px tx false tb is same = rw is refl
 
 pub constant_fits : (py ty pb tb c : Bool) → py ≡ (pb && tb) → (py ≡ true → ty ≡ c) → same_status (status py ty) (where_true (status pb tb) (Some c)) ≡ true
 constant_fits py ty true true c is same = rw (is, same is) (same_as_itself c)
-constant_fits py ty true false c is same = rw is refl
-constant_fits py ty false tb c is same = rw is refl
+constant_fits py ty _ _ c is same = rw is refl
 
 pub default_fits : (py ty pu tu pv tv : Bool) → py ≡ (pu || pv) → (py ≡ true → ty ≡ (if pu then tu else tv)) → same_status (status py ty) (or_else (status pu tu) (status pv tv)) ≡ true
 default_fits py ty true tu pv tv is same = rw (is, same is) (same_as_itself tu)
@@ -29,9 +28,8 @@ event_fits py ty true tx is same = rw (is, same) refl
 event_fits py ty false tx is same = rw is refl
 
 pub truth_fits : (py ty : Bool) (given : Option Bool) → ((b : Bool) → py ≡ true → given ≡ Some b → ty ≡ b) → has_truth (status py ty) given ≡ true
-truth_fits false ty given same = refl
-truth_fits true ty None same = refl
 truth_fits true ty (Some b) same = rw (same b refl refl) (same_as_itself b)
+truth_fits _ ty _ same = refl
 
 -- ---- and back: what an equation that is met says
 
@@ -41,8 +39,7 @@ present_of false t = refl
 
 pub where_true_present : (pb tb : Bool) (s : Status) → is_some (where_true (status pb tb) s) ≡ ((pb && tb) && is_some s)
 where_true_present true true s = refl
-where_true_present true false s = refl
-where_true_present false tb s = refl
+where_true_present _ _ s = refl
 
 pub or_else_present : (u v : Status) → is_some (or_else u v) ≡ (is_some u || is_some v)
 or_else_present None v = refl
@@ -50,14 +47,11 @@ or_else_present (Some u) v = refl
 
 pub truth_where_true : (a pb tb px tx : Bool) → same_status (Some a) (where_true (status pb tb) (status px tx)) ≡ true → a ≡ tx
 truth_where_true a true true true tx met = truths_are_same a tx met
-truth_where_true a true true false tx met = absurd (false≢true met)
-truth_where_true a true false px tx met = absurd (false≢true met)
-truth_where_true a false tb px tx met = absurd (false≢true met)
+truth_where_true a _ _ _ tx met = absurd (false≢true met)
 
 pub truth_constant : (a c : Bool) (b : Status) → same_status (Some a) (where_true b (Some c)) ≡ true → a ≡ c
-truth_constant a c None met = absurd (false≢true met)
 truth_constant a c (Some true) met = truths_are_same a c met
-truth_constant a c (Some false) met = absurd (false≢true met)
+truth_constant a c _ met = absurd (false≢true met)
 
 pub truth_or_else : (a pu tu pv tv : Bool) → same_status (Some a) (or_else (status pu tu) (status pv tv)) ≡ true → a ≡ (if pu then tu else tv)
 truth_or_else a true tu pv tv met = truths_are_same a tu met

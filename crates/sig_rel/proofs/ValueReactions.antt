@@ -6,20 +6,18 @@ use Rattle.sig_rel.proofs.OnceDefined.{got_or, got_within, within_at}
 use Rattle.sig_rel.proofs.RuleLemmas.{all_at, all_from}
 use Rattle.sig_rel.proofs.ValueFits.{present_of, same_as_itself, status}
 
-statuses_fit : (signals : List Signal) (reaction : Reaction) → length reaction ≡ length signals
+pub statuses_fit : (signals : List Signal) (reaction : Reaction) → length reaction ≡ length signals
     → ((k : ℕ) (signal : Signal) → slice_get signals k ≡ Some signal → is_status_of signal.kind (status_at reaction k) ≡ true) → are_statuses signals reaction ≡ true
 statuses_fit [] [] count fit = refl
-statuses_fit [] (s ∷ reaction) count fit = absurd (omega (arith, count))
-statuses_fit (signal ∷ signals) [] count fit = absurd (omega (arith, count))
 statuses_fit (signal ∷ signals) (s ∷ reaction) count fit =
     (λ j. fit 0 signal refl j && are_statuses signals reaction) ∙ statuses_fit signals reaction (omega (arith, count)) (λ k x at. fit (suc k) x at)
+statuses_fit _ _ count fit = absurd (omega (arith, count))
 
 kind_fits_status : (kind : Kind) (p t : Bool) → (is_boolean_kind (Some kind) ≡ false → t ≡ true) → is_status_of kind (status p t) ≡ true
 kind_fits_status Boolean p t plain = refl
-kind_fits_status Integer true t plain = rw (plain refl) refl
 kind_fits_status Integer false t plain = refl
-kind_fits_status EventKind true t plain = rw (plain refl) refl
 kind_fits_status EventKind false t plain = refl
+kind_fits_status _ true t plain = rw (plain refl) refl
 
 module _ (kernel : Kernel) (valid : IsValid kernel) (least : List ℕ) (are_least : AreLeast kernel least) (values : Values)
     (all_plain : (signal : ℕ) → is_boolean kernel signal ≡ false → values.truth signal ≡ true) where

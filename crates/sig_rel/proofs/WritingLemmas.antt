@@ -1,9 +1,9 @@
 -- Columns that are written in an order in which each element stands behind what its equation reads.
-use Rattle.sig_rel.proofs.Common.{◌≡◌, ◌≤◌, ◌++◌, inl, inr, ℕ, Bool, true, false, List, [], ◌∷◌, length, get_or, map, take, Option, None, Some, refl, sym, ap, ◌∙◌, subst, arith, Contains, if◌then◌else◌, ◌&&◌, ◌||◌, slice_get, cases_Bool, false≢true, Signal, Holds, Keeps, Spans, StoreView, test, Node, Ref, Holds-kept, Spans-kept, Form, Fun, Delay, When, WhenConst, Default, Sync, Event, Operand, Sig, Const, Kernel, compares, truth_function, signals_among, contains_at, contains_head, contains_later, contains_none, IsCut, IsGivenBy, entry_of, truths_read, is_boolean, Values, has, operand_value, presence_by, truth_by_form, ArePlain, AreWritten, Gives, HoldColumns, IsPartlyWritten, IsSet, IsWritten, SpanColumns, given_by, ref_at, truth_at, values_at, IsOrderOfWriting, form_at, operand_signals, tested, Element, Presence, Truth, Rules, Columns}
+use Rattle.sig_rel.proofs.Common.{◌≡◌, ◌≤◌, ◌++◌, inl, inr, ℕ, Bool, true, false, List, [], ◌∷◌, length, get_or, map, take, Option, None, Some, refl, sym, ap, ◌∙◌, subst, arith, Contains, if◌then◌else◌, ◌&&◌, ◌||◌, slice_get, cases_Bool, false≢true, Signal, Holds, Keeps, Spans, StoreView, test, Node, Ref, Holds-kept, Spans-kept, Form, Fun, When, WhenConst, Default, Operand, Sig, Const, Kernel, compares, truth_function, signals_among, contains_at, contains_head, contains_later, contains_none, IsCut, IsGivenBy, entry_of, truths_read, is_boolean, Values, has, operand_value, presence_by, truth_by_form, ArePlain, AreWritten, Gives, HoldColumns, IsPartlyWritten, IsSet, IsWritten, SpanColumns, given_by, ref_at, truth_at, values_at, IsOrderOfWriting, form_at, operand_signals, tested, Element, Presence, Truth, Rules, Columns, get_taken}
 use Rattle.sig_rel.proofs.ElementLemmas.{held_at, held_by, set_ref, span_at, span_by}
 use Rattle.sig_rel.proofs.PlacingLemmas.{among_more}
 use Rattle.sig_rel.proofs.KeptFunctions.{test_kept}
-use Rattle.sig_rel.proofs.TriangleLemmas.{before_place, taken_place}
+use Rattle.sig_rel.proofs.TriangleLemmas.{before_place}
 
 -- ---- what an equation gives depends on its operands alone
 
@@ -15,8 +15,6 @@ module _ (least : List ℕ) (v w : Values) where
   SameTruth x = v.truth x ≡ w.truth x
 
   presence_same : (form : Form) → ((x : ℕ) → Contains (operand_signals form) x → SameHas x) → ((x : ℕ) → Contains (tested form) x → SameTruth x) → presence_by least v form ≡ presence_by least w form
-  presence_same (Fun y op operands) present truth = refl
-  presence_same (Delay y x c) present truth = refl
   presence_same (When y x b) present truth =
       let px = present x.0 (contains_head x.0 (b.0 ∷ [])) in
       let pb = present b.0 (contains_later x.0 b.0 (b.0 ∷ []) (contains_head b.0 [])) in
@@ -30,8 +28,7 @@ module _ (least : List ℕ) (v w : Values) where
       let pa = present a.0 (contains_head a.0 (b.0 ∷ [])) in
       let pb = present b.0 (contains_later a.0 b.0 (b.0 ∷ []) (contains_head b.0 [])) in
       (λ j. pa j || pb j)
-  presence_same (Sync x y) present truth = refl
-  presence_same (Event y x) present truth = refl
+  presence_same _ present truth = refl
 
   operands_same : (operands : List Operand) → ((x : ℕ) → Contains (signals_among operands) x → SameTruth x) → map (operand_value v) operands ≡ map (operand_value w) operands
   operands_same [] truth = refl
@@ -44,16 +41,13 @@ module _ (least : List ℕ) (v w : Values) where
   truth_same : (signals : List Signal) (form : Form) → ((x : ℕ) → Contains (operand_signals form) x → SameHas x) → ((x : ℕ) → Contains (operand_signals form) x → SameTruth x)
       → truth_by_form signals least v form ≡ truth_by_form signals least w form
   truth_same signals (Fun y op operands) present truth = ap (λ ts. if compares signals op operands then None else truth_function op ts) (operands_same operands truth)
-  truth_same signals (Delay y x c) present truth = refl
   truth_same signals (When y x b) present truth = ap Some (truth x.0 (contains_head x.0 (b.0 ∷ [])))
-  truth_same signals (WhenConst y c b) present truth = refl
   truth_same signals (Default y a b) present truth =
       let pa = present a.0 (contains_head a.0 (b.0 ∷ [])) in
       let ta = truth a.0 (contains_head a.0 (b.0 ∷ [])) in
       let tb = truth b.0 (contains_later a.0 b.0 (b.0 ∷ []) (contains_head b.0 [])) in
       (λ j. Some (if pa j then ta j else tb j))
-  truth_same signals (Sync x y) present truth = refl
-  truth_same signals (Event y x) present truth = refl
+  truth_same signals _ present truth = refl
 
   given_same : (signals : List Signal) (form : Form) (element : Element) → ((x : ℕ) → Contains (operand_signals form) x → SameHas x) → ((x : ℕ) → Contains (truths_read form element) x → SameTruth x)
       → given_by signals least v form element ≡ given_by signals least w form element
@@ -61,7 +55,7 @@ module _ (least : List ℕ) (v w : Values) where
   given_same signals form (Truth signal) present truth = truth_same signals form present truth
 
 taken_more : {X : Type 0} (xs : List X) (j k : ℕ) (x : X) → j ≤ k → Contains (take j xs) x → Contains (take k xs) x
-taken_more xs j k x le there = let before = before_place j xs x there in let lt = before.1 in contains_at (take k xs) before.0 x (taken_place k xs before.0 x (omega (arith, lt, le)) before.2)
+taken_more xs j k x le there = let before = before_place j xs x there in let lt = before.1 in contains_at (take k xs) before.0 x (get_taken k xs before.0 x (omega (arith, lt, le)) before.2)
 
 module _ (kernel : Kernel) (rules : Rules) (list : List Element) (order : IsOrderOfWriting kernel rules list) where
   abbrev least : List ℕ

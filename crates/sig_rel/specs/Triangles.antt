@@ -1,7 +1,7 @@
 -- Triangular kernels: their clock classes and their booleans can be put into one list in which each stands
 -- behind what decides it.
 use Rattle.std.specs.Prelude.{◌≡◌, ◌<◌, ◌⊎◌, ◌↔◌, ◌∷◌}
-use Rattle.sig_rel.specs.Prelude.{ℕ, true, false, List, [], length, take, Option, Some, option_map, slice_index, slice_get, Contains, operands_of, defines, Equation, Form, Fun, Delay, When, WhenConst, Default, Sync, Event, Kernel, is_condition, AreLeast, signals_among}
+use Rattle.sig_rel.specs.Prelude.{ℕ, true, false, List, [], length, take, Option, Some, option_map, slice_index, slice_get, Contains, operands_of, defines, Equation, Form, When, WhenConst, Default, Kernel, is_condition, AreLeast, signals_among}
 use Rattle.sig_rel.specs.Relations.{is_boolean}
 use Rattle.sig_rel.specs.declared.elements.Element.{Element}
 use Rattle.sig_rel.specs.declared.elements.Element.TheVariants.{Presence, Truth}
@@ -15,13 +15,9 @@ operand_signals form = signals_among (operands_of form)
 
 -- the signal that a When or WhenConst looks at the truth of
 abbrev pub tested : Form → List ℕ
-tested (Fun y op operands) = []
-tested (Delay y x initial) = []
 tested (When y x b) = b.0 ∷ []
 tested (WhenConst y constant b) = b.0 ∷ []
-tested (Default y u v) = []
-tested (Sync x y) = []
-tested (Event y x) = []
+tested _ = []
 
 -- a number is one of two
 abbrev pub IsEither : ℕ → ℕ → ℕ → Type 0
@@ -33,23 +29,15 @@ IsClass kernel least class = (class < length kernel.signals) × (slice_index lea
 
 -- a When, WhenConst or Default that defines a signal of the class
 abbrev pub Governs : List ℕ → ℕ → Form → Type 0
-Governs least class (Fun y op operands) = ⊥
-Governs least class (Delay y x initial) = ⊥
 Governs least class (When y x b) = slice_index least y.0 ≡ class
 Governs least class (WhenConst y constant b) = slice_index least y.0 ≡ class
 Governs least class (Default y u v) = slice_index least y.0 ≡ class
-Governs least class (Sync x y) = ⊥
-Governs least class (Event y x) = ⊥
+Governs least class _ = ⊥
 
 -- a Default that has an operand of the class
 abbrev pub HasOperandOf : List ℕ → ℕ → Form → Type 0
-HasOperandOf least class (Fun y op operands) = ⊥
-HasOperandOf least class (Delay y x initial) = ⊥
-HasOperandOf least class (When y x b) = ⊥
-HasOperandOf least class (WhenConst y constant b) = ⊥
 HasOperandOf least class (Default y u v) = IsEither class (slice_index least u.0) (slice_index least v.0)
-HasOperandOf least class (Sync x y) = ⊥
-HasOperandOf least class (Event y x) = ⊥
+HasOperandOf least class _ = ⊥
 
 -- the top: no When or WhenConst defines a signal of it, and each Default that does has an operand of it
 abbrev pub IsTop : Kernel → List ℕ → ℕ → Type 0
@@ -58,15 +46,10 @@ IsTop kernel least class = (number : ℕ) (form : Form) → form_at kernel numbe
 -- One operand of a Default is of the class that it defines a signal of, and the other one of the class of an operand of
 -- the class's counted equation, a Default too. The kernel form of cell has such a Default.
 abbrev pub Repeats : List ℕ → ℕ → Form → Form → Type 0
-Repeats least class counted (Fun y op operands) = ⊥
-Repeats least class counted (Delay y x initial) = ⊥
-Repeats least class counted (When y x b) = ⊥
-Repeats least class counted (WhenConst y constant b) = ⊥
 Repeats least class counted (Default y u v) =
     ((slice_index least u.0 ≡ class) × HasOperandOf least (slice_index least v.0) counted)
     ⊎ ((slice_index least v.0 ≡ class) × HasOperandOf least (slice_index least u.0) counted)
-Repeats least class counted (Sync x y) = ⊥
-Repeats least class counted (Event y x) = ⊥
+Repeats least class counted _ = ⊥
 
 -- the one counted equation of a class: each other When, WhenConst or Default that defines a signal of the class repeats it
 pub record IsCounted (kernel : Kernel) (least : List ℕ) (class number : ℕ) (form : Form) : Type 0 where

@@ -1,5 +1,5 @@
 -- A list of events that each change the state is bounded: each moves one actor on, or ends one.
-use Rattle.sig_schedule_laws.proofs.Common.{◌≡◌, ◌<◌, ◌≤◌, ◌-◌, ◌+◌, ◌*◌, ◌++◌, ◌⊎◌, inl, inr, ℕ, zero, suc, ℤ, Bool, true, false, cond, List, [], ◌∷◌, length, set, refl, ap, sym, subst, ◌∙◌, arith, None, Option, Some, fold, nat_lt, slice_get, mul-add, suc-mul, ltb-false, length-replicate, length-set, mul-le, Actor, code_of, ended_at, guard_holds, moved_on, next_place, opening_actor, Core, Given, IsEnabled, acted, after, items_on, looked, opening, stepped, take_first, turned, with_actor, with_items, word_before, Faults, Gives, Outcome, operated, outcome, AtLimit, Commits, Fails, Goes, Puts, Stopped, Takes, Turn, carried, received, turn, turn_at, turn_by, turn_of_op, turn_with, Event, Act, Look, CodeView, IsAccepted, Step, StepKind, Do, Send, Receive, Report, Collect, Commit, Op, one_of, AllChange, all_gone, gone_by, steps_in, slice_get_within, cases_eq, repeated}
+use Rattle.sig_schedule_laws.proofs.Common.{◌≡◌, ◌<◌, ◌≤◌, ◌-◌, ◌+◌, ◌*◌, ◌++◌, ◌⊎◌, inl, inr, ℕ, zero, suc, ℤ, Bool, true, false, cond, List, [], ◌∷◌, length, set, refl, ap, sym, subst, ◌∙◌, arith, None, Option, Some, fold, nat_lt, slice_get, mul-add, suc-mul, ltb-false, length-replicate, length-set, mul-le, Actor, code_of, ended_at, guard_holds, moved_on, next_place, opening_actor, Core, Given, IsEnabled, acted, after, items_on, looked, opening, stepped, take_first, turned, with_actor, with_items, word_before, Faults, Gives, Outcome, operated, outcome, AtLimit, Commits, Goes, Puts, Stopped, Takes, Turn, carried, received, turn, turn_at, turn_by, turn_of_op, turn_with, Event, Act, Look, CodeView, IsAccepted, Step, StepKind, Do, Receive, Collect, Op, one_of, AllChange, all_gone, gone_by, steps_in, slice_get_within, cases_eq, repeated}
 use Rattle.sig_schedule_laws.proofs.Coded.{actor_coded, code_is}
 use Rattle.sig_schedule_laws.proofs.Lists.{put_elsewhere, put_here, set_get}
 use Rattle.sig_schedule_laws.proofs.Moved.{moved_cases}
@@ -108,11 +108,10 @@ total_set (c ∷ codes) (x ∷ xs) (suc k) code a next at_c at_a more = omega (a
 
 total_within : (limit : ℕ) (codes : List CodeView) (xs : List Actor) → ((k : ℕ) (code : CodeView) (a : Actor) → slice_get codes k ≡ Some code → slice_get xs k ≡ Some a → gone_by (length code.steps) a ≤ limit * length code.steps + 1)
     → all_gone codes xs ≤ limit * steps_in codes + length codes
-total_within limit [] xs each = omega arith
-total_within limit (code ∷ codes) [] each = omega arith
 total_within limit (code ∷ codes) (a ∷ xs) each =
     let rest = total_within limit codes xs (λ k c b at_c at_b. each (suc k) c b at_c at_b) in
     omega (arith, rest, each 0 code a refl refl, mul-add limit (length code.steps) (steps_in codes))
+total_within limit _ _ each = omega arith
 
 -- ---- what an event does
 
@@ -126,12 +125,11 @@ module _ (given : Given) where
   -- what a turn does to its actor
   abbrev IsTurnOf : ℕ → Actor → Turn → Type 0
   IsTurnOf k a Stopped = Unit {0}
-  IsTurnOf k a AtLimit = a.ended ≡ false
-  IsTurnOf k a (Fails place) = a.ended ≡ false
   IsTurnOf k a (Goes next) = Moved k a next
   IsTurnOf k a (Commits reaction next) = Moved k a next
   IsTurnOf k a (Puts j item next) = Moved k a next
   IsTurnOf k a (Takes j next) = (item : ℤ) → Moved k a (next item)
+  IsTurnOf k a _ = a.ended ≡ false
 
   module _ (k : ℕ) (a : Actor) (runs : a.ended ≡ false) (within : a.instant ≤ given.limit) where
     moved : (b : Actor) → b.instant ≡ a.instant → b.step ≡ a.step → b.ended ≡ a.ended → Moved k a (moved_on (count k) b)
@@ -147,11 +145,9 @@ module _ (given : Given) where
 
     kind_turn : (kind : StepKind) → IsTurnOf k a (turn_by given.plan given.flows (code_of given.plan k) a kind)
     kind_turn (Do o) = some_op (slice_get given.plan.ops o.0)
-    kind_turn (Send j) = moved a refl refl refl
-    kind_turn (Report j) = moved a refl refl refl
     kind_turn (Receive j) = λ item. moved (received (carried given.plan.links j) item a) refl refl refl
     kind_turn (Collect j) = λ item. moved a refl refl refl
-    kind_turn Commit = moved a refl refl refl
+    kind_turn _ = moved a refl refl refl
 
     step_turn : (step : Option Step) → IsTurnOf k a (turn_at given.plan given.flows (code_of given.plan k) a step)
     step_turn None = tt
@@ -188,8 +184,6 @@ module _ (given : Given) where
 
     turned_move : (t : Turn) → IsTurnOf k a t → MovesOr (turned given k a t core)
     turned_move Stopped is = inr refl
-    turned_move AtLimit is = inl (move (turned given k a AtLimit core) (ended_at a) refl (inl (refl, is)))
-    turned_move (Fails place) is = inl (move (turned given k a (Fails place) core) (ended_at a) refl (inl (refl, is)))
     turned_move (Goes next) is = inl (move (turned given k a (Goes next) core) next refl (inr is))
     turned_move (Commits reaction next) is = inl (move (turned given k a (Commits reaction next) core) next refl (inr is))
     turned_move (Puts j item next) is = by (nat_lt (length (items_on core j)) given.capacity) where
@@ -200,13 +194,13 @@ module _ (given : Given) where
       by : (xs : List ℤ) → MovesOr (take_first k j next core xs)
       by [] = inr refl
       by (item ∷ items) = inl (move (with_items j items (with_actor k (next item) core)) (next item) refl (inr (is item)))
+    turned_move t is = inl (move (turned given k a t core) (ended_at a) refl (inl (refl, is)))
 
     looked_move : MovesOr (looked given.plan k core (Some a))
     looked_move = by a.ended refl (word_before core.word (next_place (code_of given.plan k) a)) where
       by : (b : Bool) → a.ended ≡ b → (less : Bool) → MovesOr (cond b core (cond less (with_actor k (ended_at a) core) core))
-      by true ended less = inr refl
       by false runs true = inl (move (with_actor k (ended_at a) core) (ended_at a) refl (inl (refl, runs)))
-      by false runs false = inr refl
+      by _ ended _ = inr refl
 
   event_move : (core : Core) (event : Event) → IsMove core (stepped given core event) ⊎ (stepped given core event ≡ core)
   event_move core (Act k) = by (slice_get core.actors k) refl where

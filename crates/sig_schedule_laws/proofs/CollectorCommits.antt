@@ -15,9 +15,8 @@ module _ (plan : PlanView) (accepted : IsAccepted plan) where
   commit_or_before k _ (does j number p stands own) = let lt = slice_get_within (compiled_order plan) j number stands.place in let full = accepted.order.all in inr (omega (arith, lt, full))
   commit_or_before k _ (sends j number link p stands own from) = let lt = slice_get_within (compiled_order plan) j number stands.place in let full = accepted.order.all in inr (omega (arith, lt, full))
   commit_or_before k _ (receives j number link p stands other from reader) = let lt = slice_get_within (compiled_order plan) j number stands.place in let full = accepted.order.all in inr (omega (arith, lt, full))
-  commit_or_before k _ (reports link info other at none writer) = inr (omega arith)
-  commit_or_before k _ (collects link info own at none) = inr (omega arith)
   commit_or_before k _ (commits own) = inl (refl, own)
+  commit_or_before k _ _ = inr (omega arith)
 
   commit_known : (k : ℕ) (i : Instruction) → IsKnown k i → i.kind ≡ Commit → (i ≡ commit) × (k ≡ accepted.parts.clusters)
   commit_known k _ (commits own) is = (refl, own)

@@ -39,7 +39,7 @@ pub use Rattle.sig_meaning_laws.proofs.Uniqueness.{end_at_first, one_end}
 pub use Rattle.sig_meaning_laws.proofs.Values.{where_some}
 pub use Rattle.sig_doing_laws.proofs.CommittedInstant.{store_stands}
 pub use Rattle.sig_doing_laws.proofs.Common.{Actor, All-cons, All-contains, All-nil, AreFlowsFor, Cause, Compiled, Compute, Computes, Contains-append_right, Default, Delay, DelayRead, Ended, EqId, Equation, Exhausted, Faults, Fitting, Form, Fun, Gives, HasFault, Instant, IsAccepted, IsAt, IsClean, IsEnd, IsFirstFault, IsKernelTrace, IsLongest, IsNext, IsOutcome, IsPrefixOf, IsReference, IsValid, Keeps, KeepsTo, Kernel, Left, Limit, Meets, Memory, Needs, Op, OpId, OpKind, Operation, Overflow, PlanView, Precedes, Presence, Read, Registers, Right, Seen, SigId, Speaks, StopsBefore, Store, Sync, Trace, When, WhenConst, Writes, ZeroDivisor, abstraction_of, at_contained, at_most_or, bounds_without_faults, cases_eq, clean, compiled, computed, computed_at, computed_by, computed_for, contains_at, contains_head, defined_by, divides_by_zero, each_operation, equation_id, first_cause, first_in, fitting, flow_count, flow_more, flow_of, form_for, form_in, function_of, get_or-map-range_with_len, got, has_64_bits, has_form, have_map, initial_in, instant_text, is_true, kept_order, last_of, length-map-range_with_len, needed_earlier, next_in, next_of, none_where, numbers_of, of_each, one_either, one_place, only, opening_actor, operand_in, operated, operation_in, operations_in, operations_of, outcome, outcome_by, output_text, outputs_of, own_keeps, own_present, own_speaks, own_written, place_at, range_with_len, reaction_in, read_of, remembered, remembers, same_operands, seen_at, seen_lines, signal_id, signals_of, slice_get-get_or, slice_get_within, some_at, stands_once, store_of, stored, stores_of, taken_by, tally, target_of, test, truth_at, truths_of, with_at, with_signal, without, writes_of, writing, written_below, written_by_one, written_present}
-pub use Rattle.sig_doing_laws.proofs.DefinedOnce.{defined_local, defined_once, initial_is, one_memory, same_equation, same_signal}
+pub use Rattle.sig_doing_laws.proofs.DefinedOnce.{defined_local, defined_once, initial_is, one_memory, same_equation}
 pub use Rattle.sig_doing_laws.proofs.Lines.{dropped_at, same_lines}
 pub use Rattle.sig_doing_laws.proofs.Operated.{gives_bounded, one_longer}
 pub use Rattle.sig_doing_laws.proofs.ReferenceInstant.{delayed_below, one_storing}
@@ -47,3 +47,4 @@ pub use Rattle.sig_schedule_laws.specs.Changes.{AllChange, all_gone, gone_by, st
 pub use Rattle.sig_schedule_laws.specs.Endings.{HasEnd, IsNotBefore}
 pub use Rattle.sig_schedule_laws.specs.Soundness.{IsPast, IsSound, IsSoundActor}
 pub use Rattle.sig_doing_laws.proofs.CompiledLists.{compiled_operations, compiled_order}
+pub use Rattle.sig_plan.proofs.Lists.{signal_same}

@@ -11,9 +11,8 @@ carried_at instant (Some x) = option_to_list (seen_at instant x.0)
 
 -- a choice that gives nothing
 pub nothing_from : (b : Bool) (o : Option ℤ) → ((w : ℤ) → b ≡ true → o ≡ Some w → ⊥) → (let chosen : Option ℤ = cond b o None in chosen) ≡ None
-nothing_from false o never = refl
-nothing_from true None never = refl
 nothing_from true (Some w) never = absurd (never w refl refl)
+nothing_from _ _ never = refl
 
 present_value : (s : Seen) (v : ℤ) → s ≡ Some v → unwrap_or s (pos 0) ≡ v
 present_value s v is = ap (λ (o : Option ℤ). unwrap_or o (pos 0)) is

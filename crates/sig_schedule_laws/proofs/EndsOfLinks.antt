@@ -52,10 +52,7 @@ module _ (plan : PlanView) (accepted : IsAccepted plan) (link : ℕ) (info : Lin
   sent_only : (instant : Instant) (kind : StepKind) (w : ℤ) → sent_on plan.links link instant kind ≡ Some w → (kind ≡ Send link) ⊎ (kind ≡ Report link)
   sent_only instant (Send l) w is = inl (ap Send (eqb-true l link (when_some (l == link) (item_of (seen_at instant) (carried plan.links link)) w is)))
   sent_only instant (Report l) w is = inr (ap Report (eqb-true l link (when_some (l == link) (pos 0) w is)))
-  sent_only instant (Do o) w is = absurd (let e : None ≡ Some w = is in cc)
-  sent_only instant (Receive l) w is = absurd (let e : None ≡ Some w = is in cc)
-  sent_only instant (Collect l) w is = absurd (let e : None ≡ Some w = is in cc)
-  sent_only instant Commit w is = absurd (let e : None ≡ Some w = is in cc)
+  sent_only instant _ w is = absurd (let e : None ≡ Some w = is in cc)
 
   sent_items : (k : ℕ) (i : Instruction) → IsKnown k i → i.kind ≡ Send link → IsItem plan accepted link info at (Send link) i
   sent_items k _ (sends j number l p stands own from) is = made_item Send j number l p stands from (send_same l link is)
@@ -90,10 +87,7 @@ module _ (plan : PlanView) (accepted : IsAccepted plan) (link : ℕ) (info : Lin
   taken_only : (instant : Instant) (kind : StepKind) (w : ℤ) → taken_from plan.links link instant kind ≡ Some w → (kind ≡ Receive link) ⊎ (kind ≡ Collect link)
   taken_only instant (Receive l) w is = inl (ap Receive (eqb-true l link (when_some (l == link) (item_of (seen_at instant) (carried plan.links link)) w is)))
   taken_only instant (Collect l) w is = inr (ap Collect (eqb-true l link (when_some (l == link) (pos 0) w is)))
-  taken_only instant (Do o) w is = absurd (let e : None ≡ Some w = is in cc)
-  taken_only instant (Send l) w is = absurd (let e : None ≡ Some w = is in cc)
-  taken_only instant (Report l) w is = absurd (let e : None ≡ Some w = is in cc)
-  taken_only instant Commit w is = absurd (let e : None ≡ Some w = is in cc)
+  taken_only instant _ w is = absurd (let e : None ≡ Some w = is in cc)
 
   taken_items : (k : ℕ) (i : Instruction) → IsKnown k i → i.kind ≡ Receive link → IsItem plan accepted link info at (Receive link) i
   taken_items k _ (receives j number l p stands other from reader) is = made_item Receive j number l p stands from (receive_same l link is)

@@ -257,9 +257,8 @@ module _ (given : Given) (accepted : IsAccepted given.plan) (fit : AreFlowsFor g
   pub looks_on : IsOnReference given reference (looked given.plan k core (Some actor))
   looks_on = by actor.ended (word_before core.word (next_place code actor)) refl where
     by : (b less : Bool) → word_before core.word (next_place code actor) ≡ less → IsOnReference given reference (cond b core (cond less (with_actor k (ended_at actor) core) core))
-    by true less is = on
     by false true is = ends_on given accepted fit reference core on k actor at_k (inr (inr is))
-    by false false is = on
+    by _ _ is = on
 
 -- Each event leaves a state on the reference.
 pub stepped_on : (given : Given) → IsAccepted given.plan → AreFlowsFor given.plan.kernel given.flows → (reference : Trace) → given.limit + 1 ≤ length reference → (core : Core) → IsOnReference given reference core

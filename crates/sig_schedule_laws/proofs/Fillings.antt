@@ -1,5 +1,5 @@
 -- A condition that the guard of a step needs is filled by earlier steps alone.
-use Rattle.sig_schedule_laws.proofs.Common.{compiled_operations, compiled_order, ◌≡◌, ◌<◌, ◌≤◌, ◌+◌, ◌*◌, ◌⊎◌, inl, inr, ℕ, List, length, refl, ap, sym, subst, ◌∙◌, arith, None, Option, Some, slice_get, option_and_then, cases_order, SigId, ref_depends, Depends, IsRefOf, test, fills, target_of_op, CodeView, Instruction, IsStepOf, instructions_of, IsFor, StandsAt, does, sends, receives, reports, collects, commits, Operation, operation_in, Needs, Precedes, Writes, IsAccepted, PlanView, Slot, Step, LinkInfo, plan_operations, needed_earlier, instruction_for, step_instruction, stands_once, positions_rise, contains_at, got, map_get}
+use Rattle.sig_schedule_laws.proofs.Common.{compiled_operations, compiled_order, ◌≡◌, ◌<◌, ◌≤◌, ◌+◌, ◌*◌, ◌⊎◌, inl, inr, ℕ, List, length, refl, ap, sym, subst, ◌∙◌, arith, None, Option, Some, slice_get, option_and_then, cases_order, SigId, ref_depends, Depends, IsRefOf, test, fills, target_of_op, CodeView, Instruction, IsStepOf, instructions_of, IsFor, StandsAt, does, sends, receives, Operation, operation_in, Needs, Precedes, Writes, IsAccepted, PlanView, Slot, Step, LinkInfo, plan_operations, needed_earlier, instruction_for, step_instruction, stands_once, positions_rise, contains_at, got, map_get}
 
 -- an instruction fills a signal that is written at its place
 pub record FilledAt (operations : List Operation) (order : List ℕ) (i : Instruction) (x : SigId) : Type 0 where
@@ -43,18 +43,13 @@ module _ (plan : PlanView) (accepted : IsAccepted plan) where
     writes = from.writes ∙ sym from.carries ∙ sym (carried_is link from.info from.is) ∙ is;
     position = omega arith;
   }
-  filled_at k _ (sends j number link p stands own from) x is = absurd (let e : None ≡ Some x = is in cc)
-  filled_at k _ (reports link info other at none writer) x is = absurd (let e : None ≡ Some x = is in cc)
-  filled_at k _ (collects link info own at none) x is = absurd (let e : None ≡ Some x = is in cc)
-  filled_at k _ (commits own) x is = absurd (let e : None ≡ Some x = is in cc)
+  filled_at k _ _ x is = absurd (let e : None ≡ Some x = is in cc)
 
   pub guarded_at : (k : ℕ) (i : Instruction) → IsKnown k i → (v : ℕ) → Depends i.guard v → GuardedAt (compiled_operations plan) (compiled_order plan) i v
   guarded_at k _ (does j number p stands own) v depends = record { j = j; number = number; p = p; stands = stands; depends = depends; position = omega arith }
   guarded_at k _ (receives j number link p stands other from reader) v depends = record { j = j; number = number; p = p; stands = stands; depends = depends; position = omega arith }
   guarded_at k _ (sends j number link p stands own from) v depends = record { j = j; number = number; p = p; stands = stands; depends = depends; position = omega arith }
-  guarded_at k _ (reports link info other at none writer) v depends = absurd (depends.1 refl)
-  guarded_at k _ (collects link info own at none) v depends = absurd (depends.1 refl)
-  guarded_at k _ (commits own) v depends = absurd (depends.1 refl)
+  guarded_at k _ _ v depends = absurd (depends.1 refl)
 
   -- what the guard at one place needs is written at an earlier one
   pub needed_before : (i a : Instruction) (v : ℕ) (condition : SigId) → slice_get plan.clocks.conditions v ≡ Some condition → (g : GuardedAt (compiled_operations plan) (compiled_order plan) i v) (f : FilledAt (compiled_operations plan) (compiled_order plan) a condition) → f.j < g.j

@@ -1,5 +1,5 @@
 -- Where all actors have ended, the longest trace is committed, and the word names the place of its cause.
-use Rattle.sig_schedule_laws.proofs.Common.{compiled_operations, compiled_order, ◌≡◌, ◌<◌, ◌≤◌, ◌-◌, ◌+◌, ◌*◌, ◌++◌, inl, inr, ℕ, suc, ℤ, Bool, true, false, List, [], ◌∷◌, length, take, drop, refl, ap, sym, subst, ◌∙◌, arith, Contains, None, Option, Some, slice_get, option_and_then, ◌/◌, cases_lt, false_from_ne_true, map-append, take-append-drop, div-mul-add, Instant, IsLongest, IsPrefixOf, Trace, seen_at, OpId, SigId, Place, IsKernelTrace, output_text, outputs_of, seen_lines, AreFlowsFor, StopsBefore, IsFirstFault, IsOutcome, compiled, Compiled, fitting, one_either, first_cause, at_most_or, some_reference, end_at_first, one_end, form_in, Actor, code_of, guard_holds, next_place, position_of, HasFault, IsEnd, Meets, place_at, Core, Given, IsFinished, after, cause_at, cause_in, cause_of, cause_of_op, is_before, op_at, reactions_text, Faults, Gives, Outcome, outcome, HasReason, IsActorOn, IsFaulty, IsOnReference, IsWordOn, instant_at, reactions_of, sent_on, taken_from, yielded_in, IsReference, Reaction, reaction_in, Event, Instruction, instructions_of, op_id, under, IsFor, StandsAt, does, sends, receives, reports, collects, commits, Operation, operation_in, Writes, report_link, IsAccepted, Step, Do, Send, Receive, Report, Collect, Cause, Exhausted, Limit, Overflow, ZeroDivisor, Ended, Op, LinkInfo, cluster_under, does_there, positions_rise, operations_written, HasEnd, IsNotBefore, IsPast, IsSound, at_contained, slice_get_within, got, map_get, some_at, flat_map-append, taken_get}
+use Rattle.sig_schedule_laws.proofs.Common.{compiled_operations, compiled_order, ◌≡◌, ◌<◌, ◌≤◌, ◌-◌, ◌+◌, ◌*◌, ◌++◌, inl, inr, ℕ, suc, ℤ, Bool, true, false, List, [], ◌∷◌, length, take, drop, refl, ap, sym, subst, ◌∙◌, arith, Contains, None, Option, Some, slice_get, option_and_then, ◌/◌, cases_lt, false_from_ne_true, map-append, take-append-drop, div-mul-add, Instant, IsLongest, IsPrefixOf, Trace, seen_at, OpId, SigId, Place, IsKernelTrace, output_text, outputs_of, seen_lines, AreFlowsFor, StopsBefore, IsFirstFault, IsOutcome, compiled, Compiled, fitting, one_either, first_cause, at_most_or, some_reference, end_at_first, one_end, form_in, Actor, code_of, guard_holds, next_place, position_of, HasFault, IsEnd, Meets, place_at, Core, Given, IsFinished, after, cause_at, cause_in, cause_of, cause_of_op, is_before, op_at, reactions_text, Faults, Gives, Outcome, outcome, HasReason, IsActorOn, IsFaulty, IsOnReference, IsWordOn, instant_at, reactions_of, sent_on, taken_from, yielded_in, IsReference, Reaction, reaction_in, Event, Instruction, instructions_of, op_id, under, IsFor, StandsAt, does, sends, receives, reports, Operation, operation_in, Writes, report_link, IsAccepted, Step, Do, Send, Receive, Report, Collect, Cause, Exhausted, Limit, Overflow, ZeroDivisor, Ended, Op, LinkInfo, cluster_under, does_there, positions_rise, operations_written, HasEnd, IsNotBefore, IsPast, IsSound, at_contained, slice_get_within, got, map_get, some_at, flat_map-append, taken_get}
 use Rattle.sig_schedule_laws.proofs.Beginnings.{report_contained}
 use Rattle.sig_schedule_laws.proofs.Counts.{carried_before, carried_next, carried_rises, counted, front_fewer}
 use Rattle.sig_schedule_laws.proofs.ReferenceEnd.{fault_there, first_faulty, front_is, is_clean, least_faulty, none_before, of_trace, trace_is}
@@ -313,9 +313,7 @@ module _ (given : Given) (accepted : IsAccepted given.plan) (fit : AreFlowsFor g
           ap (λ z. Do (op_id z)) one
       at_even _ (sends j other link q stands_q own from) position = absurd (omega (arith, position))
       at_even _ (receives j other link q stands_q away from reader) position = absurd (omega (arith, position))
-      at_even _ (reports link found away there none writer) position = absurd (omega (arith, position, k_within))
-      at_even _ (collects link found own there none) position = absurd (omega (arith, position, k_within))
-      at_even _ (commits own) position = absurd (omega (arith, position, k_within))
+      at_even _ _ position = absurd (omega (arith, position, k_within))
 
       a_kind : a_step.0.kind ≡ Do (op_id number)
       a_kind = a_does.kind ∙ at_even a_does.i a_does.known a_there

@@ -1,5 +1,5 @@
 -- What the steps of an actor read of an input, and store for a delay, are the values of its signal.
-use Rattle.sig_schedule_laws.proofs.Common.{compiled_operations, compiled_order, ◌≡◌, ◌<◌, ◌≤◌, ◌-◌, ◌*◌, ◌++◌, inr, ℕ, ℤ, Bool, true, false, cond, List, [], length, take, refl, ap, sym, subst, ◌∙◌, arith, Contains, None, Option, Some, is_some, option_to_list, slice_get, slice_index, eq-eqb, eqb-true, append-nil, Instant, Seen, Trace, flow_of, seen_at, EqId, OpId, SigId, test, store_stands, defined_once, one_memory, same_equation, same_signal, delayed_below, one_storing, Memory, target_of, AreFlowsFor, Equation, Delay, Kernel, IsNext, compiled, Compiled, one_either, stored, form_for, form_in, guard_holds, truths_of, defined_by, first_in, remembers, Yield, input_of, names, read_at, read_by, stored_at, stored_by, yielded_before, yielded_in, instant_at, IsReference, CodeView, Instruction, op_id, under, Operation, cluster_of, operation_in, operations_of, Keeps, Precedes, IsAccepted, PlanView, Step, StepKind, Do, Send, Receive, Report, Collect, Commit, Op, OpKind, Read, Compute, Left, Right, DelayRead, Store, does_there, kept_order, stands_once, operations_written, contains_at, get_map, got, taken_get}
+use Rattle.sig_schedule_laws.proofs.Common.{compiled_operations, compiled_order, ◌≡◌, ◌<◌, ◌≤◌, ◌-◌, ◌*◌, ◌++◌, inr, ℕ, ℤ, Bool, true, false, cond, List, [], length, take, refl, ap, sym, subst, ◌∙◌, arith, Contains, None, Option, Some, is_some, option_to_list, slice_get, slice_index, eq-eqb, eqb-true, append-nil, Instant, Seen, Trace, flow_of, seen_at, EqId, OpId, SigId, test, store_stands, defined_once, one_memory, same_equation, delayed_below, one_storing, Memory, target_of, AreFlowsFor, Equation, Delay, Kernel, IsNext, compiled, Compiled, one_either, stored, form_for, form_in, guard_holds, truths_of, defined_by, first_in, remembers, Yield, input_of, names, read_at, read_by, stored_at, stored_by, yielded_before, yielded_in, instant_at, IsReference, CodeView, Instruction, op_id, under, Operation, cluster_of, operation_in, operations_of, Keeps, Precedes, IsAccepted, PlanView, Step, StepKind, Do, Op, OpKind, Read, Store, does_there, kept_order, stands_once, operations_written, contains_at, get_map, got, taken_get, signal_same}
 use Rattle.sig_schedule_laws.proofs.Done.{clock_is, done_once}
 use Rattle.sig_schedule_laws.proofs.Ends.{nothing_from}
 use Rattle.sig_schedule_laws.proofs.Instants.{next_at, next_some}
@@ -9,7 +9,7 @@ use Rattle.sig_schedule_laws.proofs.StoredOnce.{store_cluster, stores_once}
 
 named_is : (y : SigId) (o : Option SigId) → names y.0 o ≡ true → o ≡ Some y
 named_is y None is = absurd (let e : false ≡ true = is in cc)
-named_is y (Some z) is = ap Some (same_signal z y (eqb-true z.0 y.0 is))
+named_is y (Some z) is = ap Some (signal_same z y (eqb-true z.0 y.0 is))
 
 when_named : (b : Bool) (o : Option ℤ) (w : ℤ) → (let chosen : Option ℤ = cond b o None in chosen) ≡ Some w → (b ≡ true) × (o ≡ Some w)
 when_named true o w is = (refl, is)
@@ -17,19 +17,11 @@ when_named false o w is = absurd (let e : None ≡ Some w = is in cc)
 
 reads_input : (kind : OpKind) (x : SigId) → input_of kind ≡ Some x → kind ≡ Read x
 reads_input (Read z) x is = let e : Some z ≡ Some x = is in let same : z ≡ x = cc in ap Read same
-reads_input (Store e) x is = absurd (let f : None ≡ Some x = is in cc)
-reads_input Compute x is = absurd (let f : None ≡ Some x = is in cc)
-reads_input Left x is = absurd (let f : None ≡ Some x = is in cc)
-reads_input Right x is = absurd (let f : None ≡ Some x = is in cc)
-reads_input DelayRead x is = absurd (let f : None ≡ Some x = is in cc)
+reads_input _ x is = absurd (let f : None ≡ Some x = is in cc)
 
 pub stores_delay : (kernel : Kernel) (kind : OpKind) (y : SigId) → remembers kernel kind ≡ Some y → (d : EqId) × (kind ≡ Store d) × (defined_by kernel d ≡ Some y)
 stores_delay kernel (Store d) y is = (d, refl, is)
-stores_delay kernel (Read z) y is = absurd (let f : None ≡ Some y = is in cc)
-stores_delay kernel Compute y is = absurd (let f : None ≡ Some y = is in cc)
-stores_delay kernel Left y is = absurd (let f : None ≡ Some y = is in cc)
-stores_delay kernel Right y is = absurd (let f : None ≡ Some y = is in cc)
-stores_delay kernel DelayRead y is = absurd (let f : None ≡ Some y = is in cc)
+stores_delay kernel _ y is = absurd (let f : None ≡ Some y = is in cc)
 
 abbrev target_in : Option Equation → Option SigId
 target_in None = None
@@ -69,11 +61,7 @@ module _ (plan : PlanView) (accepted : IsAccepted plan) where
 
   pub reads_at : (x : SigId) (instant : Instant) (kind : StepKind) (w : ℤ) → read_at plan x.0 instant kind ≡ Some w → ReadsAt x instant kind w
   reads_at x instant (Do o) w is = read_op x instant o w (slice_get plan.ops o.0) refl is
-  reads_at x instant (Send l) w is = absurd (let f : None ≡ Some w = is in cc)
-  reads_at x instant (Report l) w is = absurd (let f : None ≡ Some w = is in cc)
-  reads_at x instant (Receive l) w is = absurd (let f : None ≡ Some w = is in cc)
-  reads_at x instant (Collect l) w is = absurd (let f : None ≡ Some w = is in cc)
-  reads_at x instant Commit w is = absurd (let f : None ≡ Some w = is in cc)
+  reads_at x instant _ w is = absurd (let f : None ≡ Some w = is in cc)
 
   pub record StoresAt (y : SigId) (instant : Instant) (kind : StepKind) (w : ℤ) : Type 0 where
     pub o : OpId
@@ -93,11 +81,7 @@ module _ (plan : PlanView) (accepted : IsAccepted plan) where
 
   pub stores_at : (y : SigId) (instant : Instant) (kind : StepKind) (w : ℤ) → stored_at plan y.0 instant kind ≡ Some w → StoresAt y instant kind w
   stores_at y instant (Do o) w is = store_op y instant o w (slice_get plan.ops o.0) refl is
-  stores_at y instant (Send l) w is = absurd (let f : None ≡ Some w = is in cc)
-  stores_at y instant (Report l) w is = absurd (let f : None ≡ Some w = is in cc)
-  stores_at y instant (Receive l) w is = absurd (let f : None ≡ Some w = is in cc)
-  stores_at y instant (Collect l) w is = absurd (let f : None ≡ Some w = is in cc)
-  stores_at y instant Commit w is = absurd (let f : None ≡ Some w = is in cc)
+  stores_at y instant _ w is = absurd (let f : None ≡ Some w = is in cc)
 
   module _ (k : ℕ) (code : CodeView) (coded : slice_get plan.codes k ≡ Some code) where
     -- an operation that a step does, and its guard at an instant

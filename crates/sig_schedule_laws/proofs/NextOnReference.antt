@@ -1,5 +1,5 @@
 -- What an actor on the reference makes of its next step: it stays on the reference, or has a fault there.
-use Rattle.sig_schedule_laws.proofs.Common.{compiled_operations, compiled_order, ◌≡◌, ◌≤◌, ◌-◌, ◌+◌, ◌*◌, ◌++◌, inl, inr, ℕ, suc, ℤ, pos, Bool, true, false, cond, List, [], ◌∷◌, length, take, refl, ap, sym, subst, ◌∙◌, arith, Contains, None, Option, Some, option_to_list, slice_get, unwrap_or, ◌&&◌, and_from, and_left, and_right, eq-eqb, ne_eqb, append-nil, length-append, Instant, Seen, Trace, seen_at, OpId, SigId, test, defined_once, initial_is, last_of, target_of, AreFlowsFor, IsAt, IsOutcome, compiled, Compiled, fitting, one_either, reference_outcome, Actor, Registers, guard_holds, initial_in, next_place, position_of, truths_of, with_at, with_signal, HasFault, Meets, Faults, Gives, first_in, operated, outcome, outcome_by, remembers, taken_by, IsActorOn, IsFaulty, Yield, fills, input_of, instant_at, names, read_at, read_by, register_before, stored_at, stored_by, target_of_op, yielded_before, IsReference, carried, received, CodeView, Operation, operation_in, IsAccepted, PlanView, Step, Do, Receive, Cause, Op, OpKind, Read, Compute, Left, Right, DelayRead, Store, contains_head, cases_eq, get_map}
+use Rattle.sig_schedule_laws.proofs.Common.{compiled_operations, compiled_order, ◌≡◌, ◌≤◌, ◌-◌, ◌+◌, ◌*◌, ◌++◌, inl, inr, ℕ, suc, ℤ, pos, Bool, true, false, cond, List, [], ◌∷◌, length, take, refl, ap, sym, subst, ◌∙◌, arith, Contains, None, Option, Some, option_to_list, slice_get, unwrap_or, ◌&&◌, and_from, and_left, and_right, eq-eqb, ne_eqb, append-nil, length-append, Instant, Seen, Trace, seen_at, OpId, SigId, test, defined_once, initial_is, last_of, target_of, AreFlowsFor, IsAt, IsOutcome, compiled, Compiled, fitting, one_either, reference_outcome, Actor, Registers, guard_holds, initial_in, next_place, position_of, truths_of, with_at, with_signal, HasFault, Meets, Faults, Gives, first_in, operated, outcome, outcome_by, remembers, taken_by, IsActorOn, IsFaulty, Yield, fills, input_of, instant_at, names, read_at, read_by, register_before, stored_at, stored_by, target_of_op, yielded_before, IsReference, carried, received, CodeView, Operation, operation_in, IsAccepted, PlanView, Step, Do, Receive, Cause, Op, OpKind, Read, contains_head, cases_eq, get_map}
 use Rattle.sig_schedule_laws.proofs.Amid.{guard_known, reads_known}
 use Rattle.sig_schedule_laws.proofs.Inputs.{done_by, in_kernel, read_before, stored_before, stores_delay}
 use Rattle.sig_schedule_laws.proofs.Instants.{reference_to}
@@ -200,11 +200,7 @@ module _ (plan : PlanView) (accepted : IsAccepted plan) (flows : List (List ℤ)
             at_other x.0 (actor.taken x.0 + 1) actor.taken n apart ∙ taken_same n
             ∙ ap (λ b. length (before (read_at plan n) ++ option_to_list (cond b (seen_at now n) None))) (sym (ne_eqb x.0 n apart))
       ]
-      taken_of n (Store e) of = taken_same n
-      taken_of n Compute of = taken_same n
-      taken_of n Left of = taken_same n
-      taken_of n Right of = taken_same n
-      taken_of n DelayRead of = taken_same n
+      taken_of n _ of = taken_same n
 
       pub done_behind : IsBehind plan code reference (operated plan.kernel op v actor)
       done_behind = record {

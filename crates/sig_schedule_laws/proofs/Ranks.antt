@@ -3,12 +3,11 @@ use Rattle.sig_schedule_laws.proofs.Common.{◌≡◌, ◌<◌, ◌≤◌, ◌+�
 
 -- the link that an instruction names
 abbrev link_in : StepKind → ℕ
-link_in (Do o) = 0
 link_in (Send l) = l
 link_in (Receive l) = l
 link_in (Report l) = l
 link_in (Collect l) = l
-link_in Commit = 0
+link_in _ = 0
 
 -- one comes before another one: by position, then by link
 abbrev Under : Instruction → Instruction → Type 0
@@ -28,6 +27,9 @@ rising_append (x ∷ xs) ys first second apart = (
   rising_append xs ys first.1 second (λ a b in_a in_b. apart a b (contains_later x a xs in_a) in_b),
 )
 
+between_wider : (low high less more : ℕ) (xs : List Instruction) → less ≤ low → high ≤ more → Between low high xs → Between less more xs
+between_wider low high less more xs le ge is y there = let both = is y there in (omega (arith, le, both.0), omega (arith, ge, both.1))
+
 between_append : (low high : ℕ) (xs ys : List Instruction) → Between low high xs → Between low high ys → Between low high (xs ++ ys)
 between_append low high xs ys first second y there = elim (Contains-append_cases xs ys y there) [ inl own ↦ first y own | inr other ↦ second y other ]
 
@@ -39,9 +41,6 @@ between_one low high x above below y there = elim (contains_cons x y [] there) [
 
 between_none : (low high : ℕ) → Between low high []
 between_none low high y there = absurd (contains_none y there)
-
-between_wider : (low high less more : ℕ) (xs : List Instruction) → less ≤ low → high ≤ more → Between low high xs → Between less more xs
-between_wider low high less more xs le ge is y there = let both = is y there in (omega (arith, le, both.0), omega (arith, ge, both.1))
 
 -- ---- numbers of links ascend
 

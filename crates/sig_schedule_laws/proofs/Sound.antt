@@ -151,9 +151,8 @@ module _ (given : Given) (accepted : IsAccepted given.plan) (fit : AreFlowsFor g
   pub looks_sound : IsSound given reference (looked given.plan k core (Some actor))
   looks_sound = by actor.ended (word_before core.word (next_place code actor)) where
     by : (b less : Bool) → IsSound given reference (cond b core (cond less (with_actor k (ended_at actor) core) core))
-    by true less = sound
     by false true = ends
-    by false false = sound
+    by _ _ = sound
 
 pub stepped_sound : (given : Given) → IsAccepted given.plan → AreFlowsFor given.plan.kernel given.flows → (reference : Trace) → (core : Core) → IsOnReference given reference core → IsSound given reference core
     → (event : Event) → IsSound given reference (stepped given core event)

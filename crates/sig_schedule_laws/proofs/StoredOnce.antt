@@ -5,11 +5,7 @@ use Rattle.sig_kernel.specs.declared.equation.Form.TheVariants.{Event}
 -- an operation stores into the memory of the delay of a number
 abbrev is_store : ℕ → OpKind → Bool
 is_store m (Store d) = d.0 == m
-is_store m (Read x) = false
-is_store m Compute = false
-is_store m Left = false
-is_store m Right = false
-is_store m DelayRead = false
+is_store m _ = false
 
 module _ (kernel : Kernel) (presence : Presence) (m : ℕ) where
   abbrev stores : Operation → Bool
@@ -60,12 +56,7 @@ module _ (kernel : Kernel) (presence : Presence) (m : ℕ) where
         omega (arith, more, none, at_most_one (n == m)),
         λ apart. let zeroed : one_of (n == m) ≡ 0 = ap one_of (ne_eqb n m apart) in omega (arith, more, none, zeroed),
       )
-  stored_by n (Fun y op operands) = let none = tally_none stores in (omega (arith, none), λ apart. none)
-  stored_by n (When y x b) = let none = tally_none stores in (omega (arith, none), λ apart. none)
-  stored_by n (WhenConst y k b) = let none = tally_none stores in (omega (arith, none), λ apart. none)
-  stored_by n (Default y u v) = let none = tally_none stores in (omega (arith, none), λ apart. none)
-  stored_by n (Sync x y) = let none = tally_none stores in (omega (arith, none), λ apart. none)
-  stored_by n (Event y x) = let none = tally_none stores in (omega (arith, none), λ apart. none)
+  stored_by n _ = let none = tally_none stores in (omega (arith, none), λ apart. none)
 
   all_stored : (n : ℕ) (equations : List Equation) → (tally stores (of_each (stores_of kernel.signals presence) n equations) ≤ 1) × (m < n → tally stores (of_each (stores_of kernel.signals presence) n equations) ≡ 0)
   all_stored n [] = let none = tally_none stores in (omega (arith, none), λ lt. none)
@@ -124,12 +115,7 @@ module _ (kernel : Kernel) (presence : Presence) where
       let g : Some (Delay y u i) ≡ Some (Delay z x initial) = sym has ∙ ap (λ (n : EqId). form_for kernel (Some n)) one ∙ is in
       let same : y ≡ z = cc in
       ap (cluster_at kernel.signals) same)
-  stores_of_delay number (Fun y op operands) has = All-nil IsOfDelay
-  stores_of_delay number (When y x b) has = All-nil IsOfDelay
-  stores_of_delay number (WhenConst y constant b) has = All-nil IsOfDelay
-  stores_of_delay number (Default y u v) has = All-nil IsOfDelay
-  stores_of_delay number (Sync x y) has = All-nil IsOfDelay
-  stores_of_delay number (Event y x) has = All-nil IsOfDelay
+  stores_of_delay number _ has = All-nil IsOfDelay
 
   pub store_cluster : (p : Operation) → Contains (operations_of kernel presence) p → IsOfDelay p
   store_cluster p among = All-contains IsOfDelay (operations_of kernel presence) p

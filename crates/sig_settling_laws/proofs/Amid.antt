@@ -25,13 +25,9 @@ module _ (given : Given) (final : ℕ → Own) where
 
 -- an actor can do its turn: the link takes an item, or has one
 abbrev pub CanHappen : Given → Core → Turn → Type 0
-CanHappen given core Stopped = Unit {0}
-CanHappen given core AtLimit = Unit {0}
-CanHappen given core (Fails place) = Unit {0}
-CanHappen given core (Goes next) = Unit {0}
-CanHappen given core (Commits reaction next) = Unit {0}
 CanHappen given core (Puts l item next) = length (items_on core l) < given.capacity
 CanHappen given core (Takes l next) = 1 ≤ length (items_on core l)
+CanHappen given core _ = Unit {0}
 
 module _ (given : Given) (accepted : IsAccepted given.plan) (fit : AreFlowsFor given.plan.kernel given.flows) (reference : Trace) (long : given.limit + 1 ≤ length reference) (final : ℕ → Own) (links : List (List ℤ))
     (balanced : AreBalanced given final links) (core : Core) (on : IsOnReference given reference core) (now : ℕ → Own) (more : ℕ → ℕ) (amid : IsAmid given final core now more) where

@@ -1,5 +1,5 @@
 -- Where an actor has own steps left, one of the actors can do its next one.
-use Rattle.sig_settling_laws.proofs.Common.{compiled_operations, compiled_order, ◌≡◌, ◌<◌, ◌≤◌, ◌+◌, ◌⊎◌, inl, inr, ℕ, zero, suc, ℤ, true, false, List, [], ◌∷◌, length, get_or, refl, ap, sym, subst, ◌∙◌, arith, Some, slice_get, cases_lt, length-append, Instant, Trace, seen_at, Place, AreFlowsFor, Actor, code_of, next_place, position_of, Core, Given, items_on, IsActorOn, IsOnReference, instant_at, sent_on, taken_from, AtLimit, Commits, Fails, Goes, Puts, Stopped, Takes, Turn, turn, Instruction, instructions_of, IsFor, IsAccepted, Step, StepKind, Do, Send, Receive, Report, Collect, Commit, LinkInfo, positions_rise, reader_end, chosen_of, IsSending, sends_item, sends_report, DoesStep, step_does, coded, reader_earlier, writer_no_later, NotAfter, Grow, HasTurned, LeadBy, Own, AreBalanced, is_next, is_such, takes_item, slice_get_within, some_at}
+use Rattle.sig_settling_laws.proofs.Common.{compiled_operations, compiled_order, ◌≡◌, ◌<◌, ◌≤◌, ◌+◌, ◌⊎◌, inl, inr, ℕ, zero, suc, ℤ, true, false, List, [], ◌∷◌, length, get_or, refl, ap, sym, subst, ◌∙◌, arith, Some, slice_get, cases_lt, length-append, Instant, Trace, seen_at, Place, AreFlowsFor, Actor, code_of, next_place, position_of, Core, Given, items_on, IsActorOn, IsOnReference, instant_at, sent_on, taken_from, Puts, Takes, Turn, turn, Instruction, instructions_of, IsFor, IsAccepted, Step, StepKind, Receive, Collect, LinkInfo, positions_rise, reader_end, chosen_of, IsSending, sends_item, sends_report, DoesStep, step_does, coded, reader_earlier, writer_no_later, NotAfter, Grow, HasTurned, LeadBy, Own, AreBalanced, is_next, is_such, takes_item, slice_get_within, some_at}
 use Rattle.sig_settling_laws.proofs.Amid.{CanHappen, IsAmid, ends_there}
 use Rattle.sig_settling_laws.proofs.Least.{LeastLeft}
 use Rattle.sig_settling_laws.proofs.OrderOfSteps.{rank_of, rank_place, takes_last}
@@ -64,11 +64,6 @@ module _ (given : Given) (accepted : IsAccepted given.plan) (fit : AreFlowsFor g
       pub empty : items_on core l ≡ []
 
     sort : (t : Turn) → TurnTells t → HasTurned t (now k) own → CanHappen given core t ⊎ (Full ⊎ Starving)
-    sort Stopped told has = inl tt
-    sort AtLimit told has = inl tt
-    sort (Fails p) told has = inl tt
-    sort (Goes next) told has = inl tt
-    sort (Commits reaction next) told has = inl tt
     sort (Puts l item next) told has = elim (cases_lt (length (items_on core l)) given.capacity) [
       | inl less ↦ inl less
       | inr full ↦ inr (inl (record { l = l; putting = told; item = item; grow = has.1.0; full = full }))
@@ -77,6 +72,7 @@ module _ (given : Given) (accepted : IsAccepted given.plan) (fit : AreFlowsFor g
       by : (xs : List ℤ) → items_on core l ≡ xs → (1 ≤ length (items_on core l)) ⊎ (Full ⊎ Starving)
       by [] empty = inr (inr (record { l = l; taking = told; item = has.0; grow = has.2.1; empty = empty }))
       by (x ∷ xs) is_there = let count : length (items_on core l) ≡ suc (length xs) = ap (λ (ys : List ℤ). length ys) is_there in inl (omega (arith, count))
+    sort _ told has = inl tt
 
     pub sorted : CanHappen given core (turn given.plan given.flows given.limit k actor) ⊎ (Full ⊎ Starving)
     sorted = sort (turn given.plan given.flows given.limit k actor) tells lead.1
@@ -261,10 +257,7 @@ module _ (given : Given) (accepted : IsAccepted given.plan) (fit : AreFlowsFor g
       by : (kind : StepKind) → w_step.0.kind ≡ kind → takes_item w_step.0.kind ≡ false
       by (Receive j) is = absurd (sending.alone e.i e.known here j (inl (sym e.kind ∙ is)))
       by (Collect j) is = absurd (sending.alone e.i e.known here j (inr (sym e.kind ∙ is)))
-      by (Send j) is = ap takes_item is
-      by (Report j) is = ap takes_item is
-      by (Do o) is = ap takes_item is
-      by Commit is = ap takes_item is
+      by _ is = ap takes_item is
 
     pub never_starving : ⊥
     never_starving = takes_last (code_of given.plan k) me (code_of given.plan w) writer (least w w_lt writer_left) same_instant (omega (arith, same_position, my_position)) i_take w_takes_not

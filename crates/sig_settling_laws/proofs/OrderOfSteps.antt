@@ -1,5 +1,5 @@
 -- The order of steps: by place, and at one place those that take last.
-use Rattle.sig_settling_laws.proofs.Common.{◌≡◌, ◌≤◌, ◌+◌, ◌*◌, ◌++◌, inl, inr, ℕ, Bool, true, false, List, [], ◌∷◌, refl, ap, subst, arith, None, Option, Some, fold, slice_get, false_from_ne_true, Place, Actor, code_of, next_place, Core, Given, is_before, opening, stepped, Act, CodeView, Step, StepKind, Do, Send, Receive, Report, Collect, Commit, NotAfter, after_or_before, AreInOrder, IsNoLater, acts, is_next, is_such, puts_item, takes_item}
+use Rattle.sig_settling_laws.proofs.Common.{◌≡◌, ◌≤◌, ◌+◌, ◌*◌, ◌++◌, inl, inr, ℕ, Bool, true, false, List, [], ◌∷◌, refl, ap, subst, arith, None, Option, Some, fold, slice_get, false_from_ne_true, Place, Actor, code_of, next_place, Core, Given, is_before, opening, stepped, Act, CodeView, Step, StepKind, Receive, Collect, NotAfter, after_or_before, AreInOrder, IsNoLater, acts, is_next, is_such, puts_item, takes_item}
 
 -- ---- ranks of next steps
 
@@ -29,12 +29,9 @@ takes_last c a d b (inr both) instant position takes not =
     omega (arith, both.1, position, one, none)
 
 put_takes_not : (kind : StepKind) → puts_item kind ≡ true → takes_item kind ≡ false
-put_takes_not (Send l) is = refl
-put_takes_not (Report l) is = refl
 put_takes_not (Receive l) is = absurd (let clash : false ≡ true = is in cc)
 put_takes_not (Collect l) is = absurd (let clash : false ≡ true = is in cc)
-put_takes_not (Do o) is = refl
-put_takes_not Commit is = refl
+put_takes_not _ is = refl
 
 next_takes_not : (step : Option Step) → is_such puts_item step ≡ true → is_such takes_item step ≡ false
 next_takes_not None is = refl

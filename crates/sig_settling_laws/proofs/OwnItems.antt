@@ -1,5 +1,5 @@
 -- Own steps: an actor that does one runs, and the items that it sent and took only become more.
-use Rattle.sig_settling_laws.proofs.Common.{◌≡◌, ◌++◌, inl, inr, ℕ, zero, suc, ℤ, Bool, true, false, cond, List, [], ◌∷◌, refl, ap, sym, subst, ◌∙◌, append_assoc, nat_lt, slice_get, append-nil, code_of, Given, AtLimit, Commits, Fails, Goes, Puts, Stopped, Takes, Turn, turn, turn_at, Grow, HasTurned, IsOwnStep, Items, LeadBy, Own, Stay, cases_eq}
+use Rattle.sig_settling_laws.proofs.Common.{◌≡◌, ◌++◌, inl, inr, ℕ, zero, suc, ℤ, Bool, true, false, cond, List, [], ◌∷◌, refl, ap, sym, subst, ◌∙◌, append_assoc, nat_lt, slice_get, append-nil, code_of, Given, AtLimit, Puts, Stopped, Takes, Turn, turn, turn_at, Grow, HasTurned, IsOwnStep, Items, LeadBy, Own, Stay, cases_eq}
 
 -- items stand in front of more
 abbrev pub Begin : Items → Items → Type 0
@@ -25,12 +25,9 @@ begin_onward a b c one two link =
 
 turned_begins : (t : Turn) (a b : Own) → HasTurned t a b → Begin a.sent b.sent × Begin a.taken b.taken
 turned_begins Stopped a b turned = absurd turned
-turned_begins AtLimit a b turned = (begin_stay a.sent b.sent turned.1.0, begin_stay a.taken b.taken turned.1.1)
-turned_begins (Fails place) a b turned = (begin_stay a.sent b.sent turned.1.0, begin_stay a.taken b.taken turned.1.1)
-turned_begins (Goes next) a b turned = (begin_stay a.sent b.sent turned.1.0, begin_stay a.taken b.taken turned.1.1)
-turned_begins (Commits reaction next) a b turned = (begin_stay a.sent b.sent turned.1.0, begin_stay a.taken b.taken turned.1.1)
 turned_begins (Puts l item next) a b turned = (begin_grow l item a.sent b.sent turned.1.0, begin_stay a.taken b.taken turned.1.1)
 turned_begins (Takes l next) a b turned = (begin_stay a.sent b.sent turned.2.0, begin_grow l turned.0 a.taken b.taken turned.2.1)
+turned_begins _ a b turned = (begin_stay a.sent b.sent turned.1.0, begin_stay a.taken b.taken turned.1.1)
 
 module _ (given : Given) (k : ℕ) where
   pub lead_begins : (n : ℕ) (a b : Own) → LeadBy given k n a b → Begin a.sent b.sent × Begin a.taken b.taken

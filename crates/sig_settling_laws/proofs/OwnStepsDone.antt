@@ -210,9 +210,8 @@ module _ (given : Given) (accepted : IsAccepted given.plan) (fit : AreFlowsFor g
   lead_by k (inr ge) lt = absurd (omega (arith, lt, ge))
 
   no_items : (n j : ℕ) → get_or (replicate n (let none : List ℤ = [] in none)) j [] ≡ []
-  no_items zero j = refl
-  no_items (suc n) zero = refl
   no_items (suc n) (suc j) = no_items n j
+  no_items _ _ = refl
 
   opening_there : (k : ℕ) → k < length given.plan.codes → slice_get (opening given.plan).actors k ≡ Some (opening_actor given.plan.kernel)
   opening_there k lt =

@@ -1,5 +1,5 @@
 -- A step of an actor's own does not lower its rank.
-use Rattle.sig_settling_laws.proofs.Common.{compiled_operations, compiled_order, ◌≡◌, ◌<◌, ◌≤◌, ◌+◌, ◌*◌, ◌⊎◌, inl, inr, ℕ, zero, suc, ℤ, Bool, true, false, cond, List, length, refl, ap, sym, subst, ◌∙◌, arith, None, Option, Some, nat_lt, slice_get, cases_lt, Actor, code_of, ended_at, guard_holds, moved_on, next_place, position_of, Given, Faults, Gives, Outcome, operated, outcome, AtLimit, Commits, Fails, Goes, Puts, Stopped, Takes, Turn, carried, received, turn, turn_at, turn_by, turn_of_op, turn_with, CodeView, Instruction, IsFor, StandsAt, does, sends, receives, reports, collects, commits, Operation, IsAccepted, PlanView, Step, StepKind, Do, Send, Receive, Report, Collect, Commit, Op, LinkInfo, positions_rise, moved_cases, DoesStep, step_does, NotAfter, HasTurned, IsOwnStep, LeadBy, Own, is_next, is_such, takes_item, slice_get_within, some_at}
+use Rattle.sig_settling_laws.proofs.Common.{compiled_operations, compiled_order, ◌≡◌, ◌<◌, ◌≤◌, ◌+◌, ◌*◌, ◌⊎◌, inl, inr, ℕ, zero, suc, ℤ, Bool, true, false, cond, List, length, refl, ap, sym, subst, ◌∙◌, arith, None, Option, Some, nat_lt, slice_get, cases_lt, Actor, code_of, ended_at, guard_holds, moved_on, next_place, position_of, Given, Faults, Gives, Outcome, operated, outcome, AtLimit, Commits, Fails, Goes, Puts, Stopped, Takes, Turn, carried, received, turn, turn_at, turn_by, turn_of_op, turn_with, CodeView, Instruction, IsFor, StandsAt, does, sends, receives, reports, collects, commits, Operation, IsAccepted, PlanView, Step, StepKind, Do, Receive, Collect, Op, LinkInfo, positions_rise, moved_cases, DoesStep, step_does, NotAfter, HasTurned, IsOwnStep, LeadBy, Own, is_next, is_such, takes_item, slice_get_within, some_at}
 use Rattle.sig_settling_laws.proofs.OrderOfSteps.{flag, flag_most, rank_of}
 use Rattle.sig_settling_laws.proofs.OwnItems.{step_runs}
 
@@ -13,13 +13,11 @@ moved : (count : ℕ) (a : Actor) → HasMoved a (moved_on count a)
 moved count a = moved_cases (λ z. HasMoved a z) count a (λ less. inl (refl, refl)) (λ over. inr refl)
 
 abbrev MovesBy : Actor → Turn → Type 0
-MovesBy a Stopped = Unit {0}
-MovesBy a AtLimit = Unit {0}
-MovesBy a (Fails place) = Unit {0}
 MovesBy a (Goes next) = HasMoved a next
 MovesBy a (Commits reaction next) = HasMoved a next
 MovesBy a (Puts l item next) = HasMoved a next
 MovesBy a (Takes l next) = (item : ℤ) → HasMoved a (next item)
+MovesBy a _ = Unit {0}
 
 module _ (given : Given) (k : ℕ) (a : Actor) where
   abbrev code : CodeView
@@ -38,11 +36,9 @@ module _ (given : Given) (k : ℕ) (a : Actor) where
 
   kind_moves : (kind : StepKind) → MovesBy a (turn_by given.plan given.flows code a kind)
   kind_moves (Do o) = found_moves (slice_get given.plan.ops o.0)
-  kind_moves (Send j) = moved count a
-  kind_moves (Report j) = moved count a
   kind_moves (Receive j) = λ item. moved count (received (carried given.plan.links j) item a)
   kind_moves (Collect j) = λ item. moved count a
-  kind_moves Commit = moved count a
+  kind_moves _ = moved count a
 
   guard_moves : (step : Step) (b : Bool) → MovesBy a (cond b (turn_by given.plan given.flows code a step.kind) (Goes (moved_on count a)))
   guard_moves step true = kind_moves step.kind
@@ -70,10 +66,8 @@ moved_by : (t : Turn) (a b : Own) → MovesBy a.actor t → HasTurned t a b → 
 moved_by Stopped a b moves has runs = absurd has
 moved_by AtLimit a b moves has runs = absurd (still_ends a b has.0.is runs)
 moved_by (Fails place) a b moves has runs = absurd (still_ends a b has.0.is runs)
-moved_by (Goes next) a b moves has runs = subst (λ (x : Actor). HasMoved a.actor x) (sym has.0.is) moves
-moved_by (Commits reaction next) a b moves has runs = subst (λ (x : Actor). HasMoved a.actor x) (sym has.0.is) moves
-moved_by (Puts l item next) a b moves has runs = subst (λ (x : Actor). HasMoved a.actor x) (sym has.0.is) moves
 moved_by (Takes l next) a b moves has runs = subst (λ (x : Actor). HasMoved a.actor x) (sym has.1.is) (moves has.0)
+moved_by _ a b moves has runs = subst (λ (x : Actor). HasMoved a.actor x) (sym has.0.is) moves
 
 pub own_step_moves : (given : Given) (k : ℕ) (a b : Own) → IsOwnStep given k a b → b.actor.ended ≡ false → HasMoved a.actor b.actor
 own_step_moves given k a b step runs = moved_by (turn given.plan given.flows given.limit k a.actor) a b (turn_moves given k a.actor) step runs
@@ -90,7 +84,6 @@ module _ (operations : List Operation) (order : List ℕ) (links : List LinkInfo
   IsKnown i = IsFor operations order links clusters actor i
 
   beside_receive : (j number : ℕ) (p : Operation) → StandsAt operations order j number p → ((p.cluster ≡ actor) → ⊥) → (i : Instruction) → IsKnown i → i.position ≡ 2 * j + 1 → takes_item i.kind ≡ true
-  beside_receive j number p stands other _ (does j2 number2 p2 stands2 mine) position = absurd (omega (arith, position))
   beside_receive j number p stands other _ (sends j2 number2 link p2 stands2 mine from) position =
       let same : j2 ≡ j = omega (arith, position) in
       let e : Some number2 ≡ Some number = sym stands2.place ∙ ap (slice_get order) same ∙ stands.place in
@@ -99,28 +92,24 @@ module _ (operations : List Operation) (order : List ℕ) (links : List LinkInfo
       let two : p2 ≡ p = cc in
       absurd (other (ap (λ (q : Operation). q.cluster) (sym two) ∙ mine))
   beside_receive j number p stands other _ (receives j2 number2 link p2 stands2 foreign from reader) position = refl
-  beside_receive j number p stands other _ (reports link found apart there none writer) position = absurd (omega (arith, position))
   beside_receive j number p stands other _ (collects link found mine there none) position = refl
   beside_receive j number p stands other _ (commits mine) position = absurd (let within = slice_get_within order j number stands.place in omega (arith, position, within, full))
+  beside_receive j number p stands other _ _ position = absurd (omega (arith, position))
 
   beside_collect : actor ≡ clusters → (i : Instruction) → IsKnown i → i.position ≡ 2 * length operations → takes_item i.kind ≡ true
   beside_collect own _ (does j number p stands mine) position = absurd (let within = slice_get_within order j number stands.place in omega (arith, position, within, full))
-  beside_collect own _ (sends j number link p stands mine from) position = absurd (omega (arith, position))
   beside_collect own _ (receives j number link p stands foreign from reader) position = refl
   beside_collect own _ (reports link found apart there none writer) position = absurd (apart own)
   beside_collect own _ (collects link found mine there none) position = refl
-  beside_collect own _ (commits mine) position = absurd (omega (arith, position))
+  beside_collect own _ _ position = absurd (omega (arith, position))
 
   no_take : {A : Type 0} → false ≡ true → A
   no_take {A} is = absurd (let clash : false ≡ true = is in cc)
 
   take_alike : (i : Instruction) → IsKnown i → takes_item i.kind ≡ true → (next : Instruction) → IsKnown next → next.position ≡ i.position → takes_item next.kind ≡ true
-  take_alike _ (does j number p stands mine) takes next known position = no_take takes
-  take_alike _ (sends j number link p stands mine from) takes next known position = no_take takes
   take_alike _ (receives j number link p stands foreign from reader) takes next known position = beside_receive j number p stands foreign next known position
-  take_alike _ (reports link found apart there none writer) takes next known position = no_take takes
   take_alike _ (collects link found mine there none) takes next known position = beside_collect mine next known position
-  take_alike _ (commits mine) takes next known position = no_take takes
+  take_alike _ _ takes next known position = no_take takes
 
 -- ---- so ranks rise in a code
 

@@ -1,5 +1,5 @@
 -- What the turn of an actor on the reference tells of the links.
-use Rattle.sig_settling_laws.proofs.Common.{◌≡◌, ◌≤◌, ◌+◌, ◌-◌, ◌⊎◌, inl, inr, ℕ, ℤ, pos, Bool, true, false, cond, length, refl, ap, sym, subst, ◌∙◌, arith, None, Option, Some, nat_lt, slice_get, eq-eqb, ltb-false, Instant, Trace, seen_at, AreFlowsFor, Actor, code_of, guard_holds, moved_on, Core, Given, Faults, Gives, Outcome, outcome, IsActorOn, IsOnReference, Yield, instant_at, sent_on, taken_from, AtLimit, Commits, Fails, Goes, Puts, Stopped, Takes, Turn, carried, item_of, turn, turn_at, turn_by, turn_of_op, turn_with, CodeView, NamesWithin, IsAccepted, Step, StepKind, Do, Send, Receive, Report, Collect, Commit, Op, LinkInfo, step_names, guard_known, commits_alone, done_chosen, reader_is, writer_is, chosen_of, actor_on, coded, some_at}
+use Rattle.sig_settling_laws.proofs.Common.{◌≡◌, ◌≤◌, ◌+◌, ◌-◌, ◌⊎◌, inl, inr, ℕ, ℤ, pos, Bool, true, false, cond, length, refl, ap, sym, subst, ◌∙◌, arith, None, Option, Some, nat_lt, slice_get, eq-eqb, ltb-false, Instant, Trace, seen_at, AreFlowsFor, Actor, code_of, guard_holds, moved_on, Core, Given, Faults, Gives, Outcome, outcome, IsActorOn, IsOnReference, Yield, instant_at, sent_on, taken_from, AtLimit, Commits, Goes, Puts, Stopped, Takes, Turn, carried, item_of, turn, turn_at, turn_by, turn_of_op, turn_with, CodeView, NamesWithin, IsAccepted, Step, StepKind, Do, Send, Receive, Report, Collect, Commit, Op, LinkInfo, step_names, guard_known, commits_alone, done_chosen, reader_is, writer_is, chosen_of, actor_on, coded, some_at}
 
 module _ (given : Given) (accepted : IsAccepted given.plan) (fit : AreFlowsFor given.plan.kernel given.flows) (reference : Trace) (long : given.limit + 1 ≤ length reference) (core : Core) (on : IsOnReference given reference core)
     (k : ℕ) (actor : Actor) (at_k : slice_get core.actors k ≡ Some actor) where
@@ -42,13 +42,10 @@ module _ (given : Given) (accepted : IsAccepted given.plan) (fit : AreFlowsFor g
     pub takes : chosen_of given.plan code reference (taken_from given.plan.links l) now step ≡ Some item
 
   abbrev pub Tells : Turn → Type 0
-  Tells Stopped = Unit {0}
-  Tells AtLimit = Unit {0}
-  Tells (Fails place) = Unit {0}
-  Tells (Goes next) = Unit {0}
   Tells (Commits reaction next) = k ≡ length given.plan.codes - 1
   Tells (Puts l item next) = IsPutting l
   Tells (Takes l next) = IsTaking l
+  Tells _ = Unit {0}
 
   module _ (runs : actor.ended ≡ false) where
     module _ (within : actor.instant ≤ given.limit) (step : Step) (at_s : slice_get code.steps actor.step ≡ Some step) (holds : guard_holds given.plan code (seen_at now) step ≡ true) where

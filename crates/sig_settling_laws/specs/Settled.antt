@@ -1,6 +1,6 @@
 -- What actors that did their own steps by themselves have in common in the end.
 use Rattle.std.specs.Prelude.{◌≡◌, ◌<◌, ◌≤◌, ◌⊎◌, ◌-◌, ◌==◌, ◌++◌, ◌∷◌}
-use Rattle.sig_settling_laws.specs.Prelude.{ℕ, ℤ, Bool, true, false, List, [], length, map, count_by, slice_get, slice_index_or, Option, None, Some, Place, Actor, code_of, ended_at, next_place, Core, Given, IsFinished, after, opening, is_before, word_before, Event, Act, Look, AllChange, CodeView, Step, StepKind, Do, Send, Receive, Report, Collect, Commit, LinkInfo}
+use Rattle.sig_settling_laws.specs.Prelude.{ℕ, ℤ, Bool, true, false, List, [], length, map, count_by, slice_get, slice_index_or, Option, None, Some, Place, Actor, code_of, ended_at, next_place, Core, Given, IsFinished, after, opening, is_before, word_before, Event, Act, Look, AllChange, CodeView, Step, StepKind, Send, Receive, Report, Collect, LinkInfo}
 use Rattle.sig_settling_laws.specs.OwnSteps.{IsOwn, LeadBy, Own, opening_own}
 
 -- a word is the least place at which one of so many actors failed, or none
@@ -42,19 +42,13 @@ times_among k numbers = count_by (λ m. m == k) numbers
 abbrev pub puts_item : StepKind → Bool
 puts_item (Send l) = true
 puts_item (Report l) = true
-puts_item (Receive l) = false
-puts_item (Collect l) = false
-puts_item (Do o) = false
-puts_item Commit = false
+puts_item _ = false
 
 -- a step that takes an item from a link
 abbrev pub takes_item : StepKind → Bool
-takes_item (Send l) = false
-takes_item (Report l) = false
 takes_item (Receive l) = true
 takes_item (Collect l) = true
-takes_item (Do o) = false
-takes_item Commit = false
+takes_item _ = false
 
 -- there is a step, and it is such a one
 abbrev pub is_such : (StepKind → Bool) → Option Step → Bool

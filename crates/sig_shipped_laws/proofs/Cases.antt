@@ -69,12 +69,7 @@ module _ (kernel : Kernel) (presence : Presence) where
   cases_stored : (number : EqId) (form : Form) → HasForm number form → All (HasCase kernel) (stores_of kernel.signals presence number form)
   cases_stored number (Delay y x initial) h =
       only (HasCase kernel) _ (Keeps number h.equation y x initial, record { kind_is = refl; equation = refl; at = h.is; form_is = h.has; writes_is = refl; reads_is = refl })
-  cases_stored number (Fun y op operands) h = All-nil (HasCase kernel)
-  cases_stored number (When y x b) h = All-nil (HasCase kernel)
-  cases_stored number (WhenConst y v b) h = All-nil (HasCase kernel)
-  cases_stored number (Default y u v) h = All-nil (HasCase kernel)
-  cases_stored number (Sync x y) h = All-nil (HasCase kernel)
-  cases_stored number (Event y x) h = All-nil (HasCase kernel)
+  cases_stored number _ h = All-nil (HasCase kernel)
 
   -- each operation of a kernel is one of these
   pub all_cases : All (HasCase kernel) (operations_of kernel presence)
@@ -132,11 +127,7 @@ module _ (kernel : Kernel) (guard : ℕ) (p : Operation) where
   at_equation : (e : EqId) (d : Equation) (kind : OpKind) → slice_get kernel.equations e.0 ≡ Some d → ((x : SigId) → kind ≡ Read x → ⊥)
       → image_op kernel guard kind (Some e) ≡ op_with guard d.at (does_of (memory_number kernel.equations e.0) kind d.form)
   at_equation e d (Read x) at read = absurd (read x refl)
-  at_equation e d Compute at read = rw at refl
-  at_equation e d Left at read = rw at refl
-  at_equation e d Right at read = rw at refl
-  at_equation e d DelayRead at read = rw at refl
-  at_equation e d (Store n) at read = rw at refl
+  at_equation e d _ at read = rw at refl
 
   module _ (e : EqId) (d : Equation) (kind : OpKind) (form : Form) (writes : Option SigId) (reads : List SigId) (is : IsOf kernel p e d kind form writes reads) (read : (x : SigId) → kind ≡ Read x → ⊥) where
     pub is_made : (what : ImageOpKind) → does_of (memory_number kernel.equations e.0) kind form ≡ Some what → image_op kernel guard p.kind p.equation ≡ Some (record { kind = what; guard = guard; at = d.at })
@@ -181,26 +172,16 @@ head_is x y same = subst (λ (s : SigId). Contains (y ∷ []) s) (sym same) (con
 
 module _ (kernel : Kernel) (p : Operation) where
   pub image_reads : (c : Case) → IsCase kernel p c → (x : SigId) → Reads (does_in kernel c) x → Contains p.reads x
-  image_reads (Reading z) is x reads = absurd reads
   image_reads (Applies e d y op operands) is x reads = subst (λ (l : List SigId). Contains l x) (sym is.reads_is) (among_signals operands x reads)
   image_reads (Samples e d y z b) is x reads = subst (λ (l : List SigId). Contains l x) (sym is.reads_is) (head_is x z reads)
-  image_reads (Fixes e d y v b) is x reads = absurd reads
-  image_reads (Ticks e d y z) is x reads = absurd reads
   image_reads (Lefts e d y u v) is x reads = subst (λ (l : List SigId). Contains l x) (sym is.reads_is) (head_is x u reads)
   image_reads (Rights e d y u v) is x reads = subst (λ (l : List SigId). Contains l x) (sym is.reads_is) (head_is x v reads)
-  image_reads (Recalls e d y z initial) is x reads = absurd reads
   image_reads (Keeps e d y z initial) is x reads = subst (λ (l : List SigId). Contains l x) (sym is.reads_is) (head_is x z reads)
+  image_reads _ is x reads = absurd reads
 
   pub image_writes : (c : Case) → IsCase kernel p c → (x : SigId) → Writes (does_in kernel c) x → p.writes ≡ Some x
-  image_writes (Reading z) is x writes = is.writes_is ∙ ap Some (sym writes)
-  image_writes (Applies e d y op operands) is x writes = is.writes_is ∙ ap Some (sym writes)
-  image_writes (Samples e d y z b) is x writes = is.writes_is ∙ ap Some (sym writes)
-  image_writes (Fixes e d y v b) is x writes = is.writes_is ∙ ap Some (sym writes)
-  image_writes (Ticks e d y z) is x writes = is.writes_is ∙ ap Some (sym writes)
-  image_writes (Lefts e d y u v) is x writes = is.writes_is ∙ ap Some (sym writes)
-  image_writes (Rights e d y u v) is x writes = is.writes_is ∙ ap Some (sym writes)
-  image_writes (Recalls e d y z initial) is x writes = is.writes_is ∙ ap Some (sym writes)
   image_writes (Keeps e d y z initial) is x writes = absurd writes
+  image_writes _ is x writes = is.writes_is ∙ ap Some (sym writes)
 
   one_written : (y x : SigId) → p.writes ≡ Some y → p.writes ≡ Some x → x ≡ y
   one_written y x one two = let same : Some x ≡ Some y = sym two ∙ one in cc

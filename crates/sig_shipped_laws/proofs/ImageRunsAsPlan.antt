@@ -21,16 +21,14 @@ take_map f zero (x ∷ xs) = refl
 take_map f (suc n) (x ∷ xs) = ap (λ (l : List _). f x ∷ l) (take_map f n xs)
 
 drop_map : {A B : Type 0} (f : A → B) (n : ℕ) (xs : List A) → drop n (map f xs) ≡ map f (drop n xs)
-drop_map f zero xs = refl
-drop_map f (suc n) [] = refl
 drop_map f (suc n) (x ∷ xs) = drop_map f n xs
+drop_map f _ _ = refl
 
 -- the lines of signals are those of the signals of their image
 image_lines : (signals : List Signal) (seen : List Seen) → image_runs.seen_lines (map image_signal signals) seen ≡ seen_lines signals seen
-image_lines [] seen = refl
-image_lines (signal ∷ signals) [] = refl
 image_lines (signal ∷ signals) (None ∷ seen) = image_lines signals seen
 image_lines (signal ∷ signals) (Some v ∷ seen) = ap (λ (l : List ℕ). seen_line signal (Some v) ++ l) (image_lines signals seen)
+image_lines _ _ = refl
 
 is_true_same : (o : Seen) → image_runs.is_true o ≡ model.is_true o
 is_true_same None = refl

@@ -1,5 +1,5 @@
 -- What the operation at a place comes to in an actor, it comes to in a state of the image that has the same.
-use Rattle.sig_shipped_laws.proofs.Common.{compiled_operations, compiled_order, ◌≡◌, ◌<◌, ◌+◌, inl, inr, ℕ, ℤ, Bool, true, false, List, [], ◌∷◌, length, map, drop, Option, None, Some, is_some, refl, sym, ap, subst, ◌∙◌, Contains, slice_get, if◌then◌else◌, pos, negsuc, slice_index, slice_index_or, slice_set, unwrap_or, option_and_then, length-map, EqId, SigId, Kind, Function, Quotient, Remainder, Identity, Negative, Not as Negation, And as Conjunction, Or as Disjunction, Xor as Exclusive, Equal, NotEqual, Less, LessEqual, Greater, GreaterEqual, Sum, Difference, Product, operand_count, Instant, Trace, seen_at, has_64_bits as fits_64, HaveValues, function_of, form_fits, kind_at, target_fits, target_of, AreFlowsFor, Equation, Form, Fun, When, WhenConst, Default, Event, FunOp, Operand, Sig, Const, Kernel, abstraction_of, test, Operation, operation_in, signals_of, IsAccepted, PlanView, Cause, Exhausted, Overflow, ZeroDivisor, Op, OpKind, Read, Compute, Left, Right, DelayRead, Store, read_present, read_below, written_below, Actor, truths_of, value_in, with_signal, Faults, Gives, computed_at, computed_by, computed_for, defined_by, first_in, memory_of, next_of, operand_in, operated, outcome, outcome_by, remembers, taken_by, divides_by_zero, result_of, compiled, Compiled, own_present, bounded_gives, equal, given, operands_counted, IsAmid, stepped, StandsAt, guard_known, here, reads_known, is_next, keeps, speaks, Computes, Does, Ends, HasZeroDivisor, State, written, memory_number, cause_in, span_at, span_of, contains_head, contains_later, at_each}
+use Rattle.sig_shipped_laws.proofs.Common.{compiled_operations, compiled_order, ◌≡◌, ◌<◌, ◌+◌, inl, inr, ℕ, ℤ, Bool, true, false, List, [], ◌∷◌, length, map, drop, Option, None, Some, is_some, refl, sym, ap, subst, ◌∙◌, Contains, slice_get, if◌then◌else◌, pos, negsuc, slice_index, slice_index_or, slice_set, unwrap_or, option_and_then, length-map, EqId, SigId, Kind, Function, Quotient, Remainder, operand_count, Instant, Trace, seen_at, has_64_bits as fits_64, HaveValues, function_of, form_fits, kind_at, target_fits, target_of, AreFlowsFor, Equation, Form, Fun, When, WhenConst, Default, Event, FunOp, Operand, Sig, Const, Kernel, abstraction_of, test, Operation, operation_in, signals_of, IsAccepted, PlanView, Cause, Exhausted, Overflow, ZeroDivisor, Op, OpKind, Read, Compute, Left, Right, DelayRead, Store, read_present, read_below, written_below, Actor, truths_of, value_in, with_signal, Faults, Gives, computed_at, computed_by, computed_for, defined_by, first_in, memory_of, next_of, operand_in, operated, outcome, outcome_by, remembers, taken_by, divides_by_zero, result_of, compiled, Compiled, own_present, bounded_gives, equal, given, operands_counted, IsAmid, stepped, StandsAt, guard_known, here, reads_known, is_next, keeps, speaks, Computes, Does, Ends, HasZeroDivisor, State, written, memory_number, cause_in, span_at, span_of, contains_head, contains_later, at_each}
 use Rattle.sig_model.specs.Results.{has_64_bits}
 use Rattle.sig_file.specs.declared.images.ImageOpKind.TheVariants as does
 use Rattle.sig_file.specs.declared.run.ImageCause.TheVariants as image
@@ -32,28 +32,8 @@ counted_by kernel y op operands (Some kind) fits = operands_counted kernel.signa
 -- a divisor that is 0
 zero_divisor : (function : Function) (values : List ℤ) → divides_by_zero function values ≡ true → HasZeroDivisor function values
 zero_divisor Quotient (a ∷ divisor ∷ []) e = (equal divisor (pos 0)).yes e
-zero_divisor Quotient [] e = absurd (let f : false ≡ true = e in cc)
-zero_divisor Quotient (a ∷ []) e = absurd (let f : false ≡ true = e in cc)
-zero_divisor Quotient (a ∷ b ∷ c ∷ values) e = absurd (let f : false ≡ true = e in cc)
 zero_divisor Remainder (a ∷ divisor ∷ []) e = (equal divisor (pos 0)).yes e
-zero_divisor Remainder [] e = absurd (let f : false ≡ true = e in cc)
-zero_divisor Remainder (a ∷ []) e = absurd (let f : false ≡ true = e in cc)
-zero_divisor Remainder (a ∷ b ∷ c ∷ values) e = absurd (let f : false ≡ true = e in cc)
-zero_divisor Identity values e = absurd (let f : false ≡ true = e in cc)
-zero_divisor Negative values e = absurd (let f : false ≡ true = e in cc)
-zero_divisor Negation values e = absurd (let f : false ≡ true = e in cc)
-zero_divisor Conjunction values e = absurd (let f : false ≡ true = e in cc)
-zero_divisor Disjunction values e = absurd (let f : false ≡ true = e in cc)
-zero_divisor Exclusive values e = absurd (let f : false ≡ true = e in cc)
-zero_divisor Equal values e = absurd (let f : false ≡ true = e in cc)
-zero_divisor NotEqual values e = absurd (let f : false ≡ true = e in cc)
-zero_divisor Less values e = absurd (let f : false ≡ true = e in cc)
-zero_divisor LessEqual values e = absurd (let f : false ≡ true = e in cc)
-zero_divisor Greater values e = absurd (let f : false ≡ true = e in cc)
-zero_divisor GreaterEqual values e = absurd (let f : false ≡ true = e in cc)
-zero_divisor Sum values e = absurd (let f : false ≡ true = e in cc)
-zero_divisor Difference values e = absurd (let f : false ≡ true = e in cc)
-zero_divisor Product values e = absurd (let f : false ≡ true = e in cc)
+zero_divisor _ _ e = absurd (let f : false ≡ true = e in cc)
 
 module _ (plan : PlanView) (accepted : IsAccepted plan) (flows : List (List ℤ)) (fit : AreFlowsFor plan.kernel flows) (trace : Trace) (instant : Instant)
     (actor : Actor) (amid : IsAmid plan flows trace instant actor) (op : Op) (stands : StandsAt plan actor.step op)

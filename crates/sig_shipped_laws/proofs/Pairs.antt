@@ -62,9 +62,8 @@ pub record IsPair (plan : PlanView) (nodes : List ImageNode) (op : Op) (one : Im
 
 abbrev pub Pairs : PlanView → List ImageNode → List Op → List ImageOp → Type 0
 Pairs plan nodes [] [] = Unit {0}
-Pairs plan nodes [] (one ∷ many) = ⊥
-Pairs plan nodes (op ∷ ops) [] = ⊥
 Pairs plan nodes (op ∷ ops) (one ∷ many) = IsPair plan nodes op one × Pairs plan nodes ops many
+Pairs plan nodes _ _ = ⊥
 
 record IsGrown (k : ℕ) (nodes : List ImageNode) (all : List ImageNode) : Type 0 where
   pub more : List ImageNode
@@ -105,24 +104,21 @@ module _ (plan : PlanView) (few : plan.kernel.inputs ≤ length plan.kernel.sign
 pub pair_at : (plan : PlanView) (nodes : List ImageNode) (ops : List Op) (many : List ImageOp) → Pairs plan nodes ops many → (n : ℕ) (one : ImageOp) → slice_get many n ≡ Some one
     → (op : Op) × (slice_get ops n ≡ Some op) × IsPair plan nodes op one
 pair_at plan nodes [] [] pairs n one e = absurd cc
-pair_at plan nodes [] (o ∷ many) pairs n one e = absurd pairs
-pair_at plan nodes (op ∷ ops) [] pairs n one e = absurd pairs
 pair_at plan nodes (op ∷ ops) (o ∷ many) pairs zero one e = let same : o ≡ one = cc in (op, refl, subst (IsPair plan nodes op) same pairs.0)
 pair_at plan nodes (op ∷ ops) (o ∷ many) pairs (suc n) one e = pair_at plan nodes ops many pairs.1 n one e
+pair_at plan nodes _ _ pairs n one e = absurd pairs
 
 pub pair_for : (plan : PlanView) (nodes : List ImageNode) (ops : List Op) (many : List ImageOp) → Pairs plan nodes ops many → (n : ℕ) (op : Op) → slice_get ops n ≡ Some op
     → (one : ImageOp) × (slice_get many n ≡ Some one) × IsPair plan nodes op one
 pair_for plan nodes [] [] pairs n op e = absurd cc
-pair_for plan nodes [] (o ∷ many) pairs n op e = absurd pairs
-pair_for plan nodes (op' ∷ ops) [] pairs n op e = absurd pairs
 pair_for plan nodes (op' ∷ ops) (o ∷ many) pairs zero op e = let same : op' ≡ op = cc in (o, refl, subst (λ (p : Op). IsPair plan nodes p o) same pairs.0)
 pair_for plan nodes (op' ∷ ops) (o ∷ many) pairs (suc n) op e = pair_for plan nodes ops many pairs.1 n op e
+pair_for plan nodes _ _ pairs n op e = absurd pairs
 
 pub pairs_long : (plan : PlanView) (nodes : List ImageNode) (ops : List Op) (many : List ImageOp) → Pairs plan nodes ops many → length many ≡ length ops
 pairs_long plan nodes [] [] pairs = refl
-pairs_long plan nodes [] (o ∷ many) pairs = absurd pairs
-pairs_long plan nodes (op ∷ ops) [] pairs = absurd pairs
 pairs_long plan nodes (op ∷ ops) (o ∷ many) pairs = ap suc (pairs_long plan nodes ops many pairs.1)
+pairs_long plan nodes _ _ pairs = absurd pairs
 
 -- ---- the operations of a plan in compiled order
 

@@ -1,9 +1,8 @@
 -- Lemmas on guards: the images of presences, with the proposals at the places of their conditions.
-use Rattle.sig_solve.proofs.Common.{◌≡◌, ◌≢◌, ◌<◌, ◌+◌, inl, inr, ℕ, Bool, true, List, length, map, get_or, set, sym, ap, ◌∙◌, subst, arith, IsTrue, Some, Result, Ok, Err, IfOk, slice_get, length-set, cases_eq, cases_order, SigId, Allows, KeepsTo, AreInOrder, is_condition, Reaction, Speaks, is_present, status_at, Depends, truth_of, IsRefOf, Keeps, StoreView, test, DdAnswer, Node, Ref, Holds-kept, SystemView, reading, AreProposed, ArePlaced, ForgetsAllBut, IsAskedIn, IsImage, IsGuard, Asked, Frame, contains_at, slice_get-get_or, slice_get_within, get_set_same}
+use Rattle.sig_solve.proofs.Common.{◌≡◌, ◌≢◌, ◌<◌, ◌+◌, inl, inr, ℕ, Bool, true, List, length, map, get_or, set, sym, ap, ◌∙◌, subst, arith, IsTrue, Some, Result, Ok, Err, IfOk, slice_get, length-set, cases_eq, cases_order, SigId, Allows, KeepsTo, AreInOrder, is_condition, Reaction, Speaks, is_present, status_at, Depends, truth_of, IsRefOf, Keeps, StoreView, test, DdAnswer, Node, Ref, Holds-kept, SystemView, reading, AreProposed, ArePlaced, ForgetsAllBut, IsAskedIn, IsImage, IsGuard, Asked, Frame, contains_at, slice_get-get_or, slice_get_within, get_set_same, test-kept}
 use Rattle.sig_solve.proofs.AskedLemmas.{is_condition_at, kept_proposals, moved, number_of, speaks_read, variable_at}
 use Rattle.sig_solve.proofs.ListLemmas.{get_set_other}
 use Rattle.sig_solve.proofs.PinnedLemmas.{not_both}
-use Rattle.sig_solve.proofs.StoreLemmas.{older_test}
 use Rattle.sig_solve.proofs.SystemLemmas.{keeps_at, proposed_truth}
 
 -- ---- places
@@ -105,6 +104,6 @@ module _ (store : StoreView) (asked : Asked) (is : IsAskedIn store asked) (condi
 pub guard_stays : (old new : StoreView) (frame : Frame) (conditions : List SigId) (f : Ref) → Keeps old new → (s : ℕ) → IsGuard old.nodes frame conditions s f → IsGuard new.nodes frame conditions s f
 guard_stays old new frame conditions f kept s is = record {
   held = Holds-kept old new kept f is.held;
-  function = λ ts. ((λ t. (is.function ts).0 (sym (older_test old new kept f is.held ts) ∙ t)), (λ w. older_test old new kept f is.held ts ∙ (is.function ts).1 w));
-  variables = λ v d. is.variables v (d.0, λ e. d.1 (older_test old new kept f is.held _ ∙ e ∙ sym (older_test old new kept f is.held _)));
+  function = λ ts. ((λ t. (is.function ts).0 (sym (test-kept old new kept f is.held ts) ∙ t)), (λ w. test-kept old new kept f is.held ts ∙ (is.function ts).1 w));
+  variables = λ v d. is.variables v (d.0, λ e. d.1 (test-kept old new kept f is.held _ ∙ e ∙ sym (test-kept old new kept f is.held _)));
 }

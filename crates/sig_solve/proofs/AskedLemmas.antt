@@ -1,6 +1,5 @@
 -- Lemmas on the solutions of a system, and on images of statements on reactions.
-use Rattle.sig_solve.proofs.Common.{◌≡◌, ◌≢◌, ◌<◌, ◌≤◌, ◌↔◌, ◌&&◌, inl, inr, ℕ, Bool, true, false, not, List, length, get_or, refl, sym, ap, ◌∙◌, subst, arith, Contains, IsTrue, zero, suc, None, Some, Result, Ok, Err, IfOk, slice_get, if◌then◌else◌, cases_eq, false≢true, SigId, IsValid, Allows, is_condition, signal_id, Reaction, Status, Speaks, is_present, status_at, truth_of, with_truth, Holds, IsRefOf, IsStore, Keeps, Spans, StoreView, test, AgreeBut, IsProduct, DdAnswer, Node, Ref, Depends-of_one, Depends-of_two, ref_depends, product_forgets, product_spanned, truth_of-with_other, truth_of-with_same, AreConditions, IsOver, IsSolution, IsSystem, IsVariable, SystemView, reading, AreProposed, ForgetsAllBut, IsAskedIn, IsImage, IsProposalOf, variables_of, IsFrame, Asked, both_true, not_true, at_contained, contains_at, slice_get-get_or, slice_get_within}
-use Rattle.sig_solve.proofs.StoreLemmas.{older_test}
+use Rattle.sig_solve.proofs.Common.{◌≡◌, ◌≢◌, ◌<◌, ◌≤◌, ◌↔◌, ◌&&◌, inl, inr, ℕ, Bool, true, false, not, List, length, get_or, refl, sym, ap, ◌∙◌, subst, arith, Contains, IsTrue, zero, suc, None, Some, Result, Ok, Err, IfOk, slice_get, if◌then◌else◌, cases_eq, false≢true, SigId, IsValid, Allows, is_condition, signal_id, Reaction, Status, Speaks, is_present, status_at, truth_of, with_truth, Holds, IsRefOf, IsStore, Keeps, Spans, StoreView, test, AgreeBut, IsProduct, DdAnswer, Node, Ref, Depends-of_one, Depends-of_two, ref_depends, product_forgets, product_spanned, truth_of-with_other, truth_of-with_same, AreConditions, IsOver, IsSolution, IsSystem, IsVariable, SystemView, reading, AreProposed, ForgetsAllBut, IsAskedIn, IsImage, IsProposalOf, variables_of, IsFrame, Asked, both_true, not_true, at_contained, contains_at, slice_get-get_or, slice_get_within, test-kept}
 use Rattle.sig_solve.proofs.SystemLemmas.{in_variables, keeps_at, of_variables, over_kept, presence_over, presence_read, status_is, truth_over, reading_kept, reading_same, solution_newer, solution_older, solution_same, system_kept}
 use Rattle.sig_solve.proofs.TruthLemmas.{is_in, mixed, mixed_at, mixed_outside}
 
@@ -69,8 +68,8 @@ asked_stays old new kept asked has is = record {
   is_system = system_kept old new kept asked.system asked.frame.kernel.now is.is_system;
   over = over_kept old new kept asked.system asked.solutions is.over;
   solutions = λ ts. (
-    (λ t. solution_newer old new kept asked.system asked.frame.kernel.now is.is_system ts ((is.solutions ts).0 (sym (older_test old new kept asked.solutions is.over.held ts) ∙ t))),
-    (λ solves. older_test old new kept asked.solutions is.over.held ts ∙ (is.solutions ts).1 (solution_older old new kept asked.system asked.frame.kernel.now is.is_system ts solves)),
+    (λ t. solution_newer old new kept asked.system asked.frame.kernel.now is.is_system ts ((is.solutions ts).0 (sym (test-kept old new kept asked.solutions is.over.held ts) ∙ t))),
+    (λ solves. test-kept old new kept asked.solutions is.over.held ts ∙ (is.solutions ts).1 (solution_older old new kept asked.system asked.frame.kernel.now is.is_system ts solves)),
   );
 }
 
@@ -144,7 +143,7 @@ module _ (store : StoreView) (asked : Asked) (is : IsAskedIn store asked) where
           let is_mid = system_kept store mid kept asked.system asked.frame.kernel.now is.is_system in
           let read = ap (λ r. is_present r s) (reading_kept mid hi more asked.system asked.frame.kernel.now is_mid ts) in
           let both = both_true (test mid.nodes asked.solutions ts) (test mid.nodes absent ts) in
-          let same = older_test store mid kept asked.solutions is.over.held ts in (
+          let same = test-kept store mid kept asked.solutions is.over.held ts in (
             (λ t.
                 let parts = both.0 (sym (made.function ts) ∙ t) in (
                   solution_newer mid hi more asked.system asked.frame.kernel.now is_mid ts (solution_newer store mid kept asked.system asked.frame.kernel.now is.is_system ts ((is.solutions ts).0 (sym same ∙ parts.0))),
@@ -172,20 +171,20 @@ module _ (store : StoreView) (asked : Asked) (is : IsAskedIn store asked) where
           let read = ap (λ r. status_at r s) (reading_kept mid hi more asked.system asked.frame.kernel.now (system_kept store mid kept asked.system asked.frame.kernel.now is.is_system) ts
           ∙ reading_kept store mid kept asked.system asked.frame.kernel.now is.is_system ts) ∙ status_here ts in
           let value : test hi.nodes fails ts ≡ (test store.nodes present ts && not (test store.nodes truth ts)) =
-          made.function ts ∙ ap (λ b. b && test mid.nodes falsehood ts) (older_test store mid kept present (presence_over asked.frame.kernel.now store.nodes asked.system is.is_system s lt).held ts) ∙ ap (λ b. test store.nodes present ts && b) (lie.function ts) in
+          made.function ts ∙ ap (λ b. b && test mid.nodes falsehood ts) (test-kept store mid kept present (presence_over asked.frame.kernel.now store.nodes asked.system is.is_system s lt).held ts) ∙ ap (λ b. test store.nodes present ts && b) (lie.function ts) in
           let both = status_fails (test store.nodes present ts) (test store.nodes truth ts) in
           ((λ t. read ∙ both.0 (sym value ∙ t)), (λ p. value ∙ both.1 (sym read ∙ p)))
 
   pub image_stays : (new : StoreView) (kept : Keeps store new) (forgotten : List Bool) (P : Reaction → Type 0) (r : Ref) → IsImage store.nodes asked forgotten P r → IsImage new.nodes asked forgotten P r
   image_stays new kept forgotten P r image = record {
     over = over_kept store new kept asked.system r image.over;
-    forgets = λ v d. image.forgets v (d.0, λ e. d.1 (older_test store new kept r image.over.held _ ∙ e ∙ sym (older_test store new kept r image.over.held _)));
+    forgets = λ v d. image.forgets v (d.0, λ e. d.1 (test-kept store new kept r image.over.held _ ∙ e ∙ sym (test-kept store new kept r image.over.held _)));
     function = λ ts. (
       (λ t.
-          let w = (image.function ts).0 (sym (older_test store new kept r image.over.held ts) ∙ t) in
+          let w = (image.function ts).0 (sym (test-kept store new kept r image.over.held ts) ∙ t) in
           (w.0, w.1, solution_newer store new kept asked.system asked.frame.kernel.now is.is_system w.0 w.2, subst P (sym (reading_kept store new kept asked.system asked.frame.kernel.now is.is_system w.0)) w.3)),
       (λ w.
-          older_test store new kept r image.over.held ts
+          test-kept store new kept r image.over.held ts
           ∙ (image.function ts).1 (w.0, w.1, solution_older store new kept asked.system asked.frame.kernel.now is.is_system w.0 w.2, subst P (reading_kept store new kept asked.system asked.frame.kernel.now is.is_system w.0) w.3)),
     );
   }

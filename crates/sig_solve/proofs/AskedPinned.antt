@@ -123,8 +123,7 @@ module _ (store : StoreView) (asked : Asked) (is : IsAskedIn store asked) (condi
       by_tests : (ts : List Bool) → test store.nodes high ts ≢ test store.nodes low ts → (x y : Bool) → test store.nodes high ts ≡ x → test store.nodes low ts ≡ y → IsPinnedBy asked.frame.kernel.now (IsAmong (take place conditions)) b.0
       by_tests ts ne true false e f = forced true high low halves.high_is halves.low_is ts e f
       by_tests ts ne false true e f = forced false low high halves.low_is halves.high_is ts f e
-      by_tests ts ne true true e f = absurd (ne (e ∙ sym f))
-      by_tests ts ne false false e f = absurd (ne (e ∙ sym f))
+      by_tests ts ne _ _ e f = absurd (ne (e ∙ sym f))
 
       pub apart_pinned : (high ≡ low → ⊥) → IsPinnedBy asked.frame.kernel.now (IsAmong (take place conditions)) b.0
       apart_pinned apart =

@@ -1,22 +1,18 @@
 -- Lemmas on presences that wait for a condition.
-use Rattle.sig_solve.proofs.Common.{◌≡◌, ◌≢◌, ◌↔◌, ◌⊎◌, inl, inr, ℕ, Bool, true, false, List, [], ◌∷◌, length, get_or, set, replicate, refl, sym, ap, ◌∙◌, subst, arith, IsTrue, zero, suc, Option, None, Some, Result, Ok, Err, IfOk, slice_get, if◌then◌else◌, false≢true, length-replicate, length-set, SigId, AgreeOn, IsDetermined, IsSignal, Reaction, Speaks, is_present, status_at, truth_of, IsRefOf, Keeps, Overlap, Spans, StoreView, test, DdAnswer, Node, Ref, Holds-kept, IsSolution, reading, ForgetsAllBut, IsAskedIn, IsImage, IsProposalOf, AreAwaited, IsApart, IsRest, IsAmong, AreEntered, IsOpenAnswer, Asked, contains_at}
+use Rattle.sig_solve.proofs.Common.{◌≡◌, ◌≢◌, ◌↔◌, ◌⊎◌, inl, inr, ℕ, Bool, true, false, List, ◌∷◌, length, get_or, set, replicate, refl, sym, ap, ◌∙◌, subst, arith, IsTrue, zero, suc, Option, None, Some, Result, Ok, Err, IfOk, slice_get, if◌then◌else◌, false≢true, length-replicate, length-set, SigId, AgreeOn, IsDetermined, IsSignal, Reaction, Speaks, is_present, status_at, truth_of, IsRefOf, Keeps, Overlap, Spans, StoreView, test, DdAnswer, Node, Ref, Holds-kept, IsSolution, reading, ForgetsAllBut, IsAskedIn, IsImage, IsProposalOf, AreAwaited, IsApart, IsRest, IsAmong, AreEntered, IsOpenAnswer, Asked, contains_at, test-kept}
 use Rattle.sig_solve.proofs.AskedLemmas.{is_condition_at, speaks_read}
 use Rattle.sig_solve.proofs.AskedRounds.{agreeing, closed_rounds}
-use Rattle.sig_solve.proofs.StoreLemmas.{older_test}
 use Rattle.sig_solve.proofs.SystemLemmas.{presence_read, reading_kept, solution_newer, solution_older}
 
 -- a list with one element set
 set_cases : {X : Type 0} (xs : List X) (k : ℕ) (x : X) (s : ℕ) (y : X) → slice_get (set xs k x) s ≡ Some y → ((s ≡ k) × (x ≡ y)) ⊎ (slice_get xs s ≡ Some y)
-set_cases [] k x s y is = inr is
 set_cases (z ∷ xs) zero x zero y is = inl (refl, cc)
-set_cases (z ∷ xs) zero x (suc s) y is = inr is
-set_cases (z ∷ xs) (suc k) x zero y is = inr is
 set_cases (z ∷ xs) (suc k) x (suc s) y is = elim (set_cases xs k x s y is) [ inl here ↦ inl (ap suc here.0, here.1) | inr there ↦ inr there ]
+set_cases _ _ x _ y is = inr is
 
 replicated : {X : Type 0} (n : ℕ) (x : X) (s : ℕ) (y : X) → slice_get (replicate n x) s ≡ Some y → x ≡ y
-replicated zero x s y is = cc
-replicated (suc n) x zero y is = cc
 replicated (suc n) x (suc s) y is = replicated n x s y is
+replicated _ x _ y is = cc
 
 pub none_awaited : (nodes : List Node) (asked : Asked) (n : ℕ) (awaited : List (Option ℕ)) → n ≡ length asked.frame.kernel.now.signals → awaited ≡ replicate n None → AreAwaited nodes asked awaited
 none_awaited nodes asked n awaited count is = record {
@@ -39,7 +35,7 @@ module _ (store : StoreView) (asked : Asked) (is : IsAskedIn store asked) where
       holds = Holds-kept store new kept r rest.holds;
       function = λ ts.
           let read = ap (λ x. is_present x s) (reading_kept store new kept asked.system asked.frame.kernel.now is.is_system ts) in
-          let same = older_test store new kept r rest.holds ts in (
+          let same = test-kept store new kept r rest.holds ts in (
             (λ t. let both = (rest.function ts).0 (sym same ∙ t) in (solution_newer store new kept asked.system asked.frame.kernel.now is.is_system ts both.0, read ∙ both.1)),
             (λ both. same ∙ (rest.function ts).1 (solution_older store new kept asked.system asked.frame.kernel.now is.is_system ts both.0, sym read ∙ both.1)),
           );
@@ -143,10 +139,9 @@ module _ (store : StoreView) (asked : Asked) (is : IsAskedIn store asked) where
       none_determined : (Overlap store.nodes with rest → ⊥) → IsDetermined asked.frame.kernel.now (IsAmong known) s
       none_determined none p q speaks_p speaks_q agree = by (is_present p s) (is_present q s) refl refl where
         by : (x y : Bool) → is_present p s ≡ x → is_present q s ≡ y → is_present p s ≡ is_present q s
-        by true true e f = e ∙ sym f
-        by false false e f = e ∙ sym f
         by true false e f = absurd (none (open_overlap p q speaks_p speaks_q agree e f))
         by false true e f = absurd (none (open_overlap q p speaks_q speaks_p (λ c is_c among. sym (agree c is_c among)) f e))
+        by _ _ e f = e ∙ sym f
 
       pub open_rest : (result : Result Bool DdAnswer) → IfOk result (λ holds. IsTrue holds ↔ Overlap store.nodes with rest) → IfOk result (IsOpenAnswer asked.frame.kernel.now (IsAmong known) s)
       open_rest (Err e) over = tt

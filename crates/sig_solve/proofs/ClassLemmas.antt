@@ -88,12 +88,11 @@ module _ (s : StoreView) (store : IsStore s) (frame : Frame) (is : IsFrame frame
   is_clock : (x : ℕ) (r : Ref) → x < length frame.kernel.now.signals → IsGuard s.nodes frame conditions x r → IsClockFunction frame.kernel.now conditions x (test s.nodes r)
   is_clock x r lt guard proposal reaction speaks keeps = by (is_present reaction x) (test s.nodes r proposal) refl refl where
     by : (a b : Bool) → is_present reaction x ≡ a → test s.nodes r proposal ≡ b → is_present reaction x ≡ test s.nodes r proposal
-    by true true at_a at_b = at_a ∙ sym at_b
-    by false false at_a at_b = at_a ∙ sym at_b
     by true false at_a at_b = absurd (false≢true (sym at_b ∙ (guard.function proposal).1 (reaction, speaks, keeps, at_a)))
     by false true at_a at_b =
         let w = (guard.function proposal).0 at_b in
         absurd (false≢true (sym at_a ∙ one_presence frame.kernel.now conditions has order proposal reaction w.0 speaks w.1 keeps w.2 x lt ∙ w.3))
+    by _ _ at_a at_b = at_a ∙ sym at_b
 
   -- signals with one guard are present together
   together : (x y : ℕ) → x < length frame.kernel.now.signals → y < length frame.kernel.now.signals → guard_at frame guards x ≡ guard_at frame guards y → (reaction : Reaction) → Speaks frame.kernel.now reaction → is_present reaction x ≡ is_present reaction y

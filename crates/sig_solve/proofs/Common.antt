@@ -53,3 +53,7 @@ pub use Rattle.sig_solve.specs.inner.Free.{AreNeeds, IsFreeIn, is_unknown, is_un
 pub use Rattle.sig_solve.specs.inner.Guards.{AreGuards, IsGuard}
 pub use Rattle.sig_solve.specs.inner.Orders.{IsFreeBy, IsPinnedBy, by_layer, of_layer}
 pub use Rattle.sig_solve.specs.inner.Rounds.{AreEntered, AreIncreasing, ArePassed, AreRounds, AreSettled, IsOpenAnswer, has_entered, layer_in}
+pub use Rattle.sig_dd.proofs.Functions.{test-kept}
+pub use Rattle.sig_rel.proofs.GeneralSystems.{someone}
+pub use Rattle.sig_rel.proofs.PlacingLemmas.{contains_more, among_more}
+pub use Rattle.sig_rel.proofs.GivenLemmas.{conditions_within}

@@ -1,6 +1,6 @@
 -- Lemmas on the share of solving.
-use Rattle.sig_solve.proofs.Common.{◌≡◌, ◌<◌, ◌≤◌, ◌+◌, ◌-◌, ◌*◌, ◌^◌, ◌⊎◌, inl, inr, ℕ, Bool, true, false, cond, eqb, count_by, List, [], ◌∷◌, length, filter, get_or, refl, sym, ap, ◌∙◌, subst, arith, zero, suc, Result, Ok, Err, IfErr, IsErrAnd, range_with_len, mul-le-mul_left, mul-le-mul_right, pow_mono, cases_lt, false≢true, length-filter, Kernel, conditions_of, is_condition, signal_id, AreLeast, StoreView, allowance, Share, IsUnknownCount, is_boolean, IsRefusedFor, RelAnswer, RelationBudget, NoRelation, IsFrame, Frame, HasNoRoom, IsFromRelation, IsWithin, calls_of, rest_of_share, share_of, store_refusal, ClockAnswer, Dead, MissingRoot, Unsolved, Pinned, filter_same, length-map, within_range}
-use Rattle.sig_solve.specs.declared.answer.ClockAnswer.TheVariants.{Budget, OutOfMemory}
+use Rattle.sig_solve.proofs.Common.{◌≡◌, ◌<◌, ◌≤◌, ◌+◌, ◌-◌, ◌*◌, ◌^◌, ◌⊎◌, inl, inr, ℕ, Bool, true, false, cond, eqb, count_by, List, [], ◌∷◌, length, filter, get_or, refl, sym, ap, ◌∙◌, subst, arith, zero, suc, Result, Ok, Err, IfErr, IsErrAnd, range_with_len, mul-le-mul_left, mul-le-mul_right, pow_mono, cases_lt, false≢true, length-filter, Kernel, conditions_of, is_condition, signal_id, AreLeast, StoreView, allowance, Share, IsUnknownCount, is_boolean, IsRefusedFor, RelAnswer, RelationBudget, NoRelation, IsFrame, Frame, HasNoRoom, IsFromRelation, IsWithin, calls_of, rest_of_share, share_of, store_refusal, ClockAnswer, filter_same, length-map, within_range}
+use Rattle.sig_solve.specs.declared.answer.ClockAnswer.TheVariants.{Budget}
 use Rattle.sig_solve.proofs.FrameLemmas.{leader_in}
 use Rattle.sig_solve.proofs.ReactionLemmas.{condition_is_boolean}
 
@@ -8,24 +8,14 @@ use Rattle.sig_solve.proofs.ReactionLemmas.{condition_is_boolean}
 pub within_of_share : {T : Type 0} (n : ℕ) (vs : List ℕ) (room : ℕ) (old new : StoreView) (result : Result T ClockAnswer) → n * allowance vs ≤ room → Share n vs old new (store_refusal result) → IsWithin room old new result
 within_of_share {T} n vs room old new result le share = record { added = omega (arith, le, share.added); refused = by result share } where
   by : (result : Result T ClockAnswer) → Share n vs old new (store_refusal result) → IfErr result (HasNoRoom old new room)
-  by (Ok x) share = tt
-  by (Err Dead) share = tt
-  by (Err (MissingRoot x y)) share = tt
-  by (Err (Unsolved x)) share = tt
-  by (Err (Pinned b)) share = tt
   by (Err (Budget k)) share = (share.refused.0, let lt = share.refused.1 in omega (arith, lt, le))
-  by (Err OutOfMemory) share = tt
+  by _ share = tt
 
 pub within_then : {T : Type 0} (a b : ℕ) (old mid new : StoreView) (result : Result T ClockAnswer) → length mid.nodes ≤ length old.nodes + a → IsWithin b mid new result → IsWithin (a + b) old new result
 within_then {T} a b old mid new result first rest = record { added = omega (arith, first, rest.added); refused = by result rest.refused } where
   by : (result : Result T ClockAnswer) → IfErr result (HasNoRoom mid new b) → IfErr result (HasNoRoom old new (a + b))
-  by (Ok x) room = tt
-  by (Err Dead) room = tt
-  by (Err (MissingRoot x y)) room = tt
-  by (Err (Unsolved x)) room = tt
-  by (Err (Pinned c)) room = tt
   by (Err (Budget k)) room = (room.0, let lt = room.1 in omega (arith, lt, first))
-  by (Err OutOfMemory) room = tt
+  by _ room = tt
 
 pub within_relation : {T : Type 0} (a b : ℕ) (old new : StoreView) (result : Result T ClockAnswer) (e : RelAnswer) → length new.nodes ≤ length old.nodes + a → IsRefusedFor old new a e → IsErrAnd result (λ d. IsFromRelation e d) → IsWithin (a + b) old new result
 within_relation a b old new (Ok x) e added refused is = absurd is
@@ -102,7 +92,7 @@ filter_fewer p q (x ∷ xs) wider = by (p x) (q x) (wider x) (filter_fewer p q x
   by false true h rest = omega (arith, rest)
   by false false h rest = rest
 
-least_one : (kernel : Kernel) (a b : List ℕ) → AreLeast kernel a → AreLeast kernel b → (s : ℕ) → s < length kernel.signals → get_or a s 0 ≡ get_or b s 0
+pub least_one : (kernel : Kernel) (a b : List ℕ) → AreLeast kernel a → AreLeast kernel b → (s : ℕ) → s < length kernel.signals → get_or a s 0 ≡ get_or b s 0
 least_one kernel a b is_a is_b s lt = omega (arith, is_a.least s (get_or b s 0) lt (is_b.same s lt), is_b.least s (get_or a s 0) lt (is_a.same s lt))
 
 module _ (frame : Frame) (is : IsFrame frame) (u : ℕ) (count : IsUnknownCount frame.kernel.now u) where

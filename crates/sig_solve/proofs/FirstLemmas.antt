@@ -1,8 +1,7 @@
 -- Lemmas on the first signals of classes.
-use Rattle.sig_solve.proofs.Common.{◌≡◌, ◌<◌, ◌≤◌, ◌⊎◌, inl, inr, ℕ, List, [], ◌∷◌, ◌++◌, length, take, get_or, refl, sym, ap, ◌∙◌, subst, arith, Contains, Some, slice_get, SigId, Ref, AreClasses, AreFirsts, IsPlace, Precedes, guard_at, Frame, contains_last, contains_none, get_or_from_slice_get, slice_get-get_or, slice_get_within, get_before, get_last}
+use Rattle.sig_solve.proofs.Common.{◌≡◌, ◌<◌, ◌≤◌, ◌⊎◌, inl, inr, ℕ, List, [], ◌∷◌, ◌++◌, length, take, get_or, refl, sym, ap, ◌∙◌, subst, arith, Contains, Some, slice_get, SigId, Ref, AreClasses, AreFirsts, IsPlace, Precedes, guard_at, Frame, contains_last, contains_none, get_or_from_slice_get, slice_get-get_or, slice_get_within, get_before, get_last, contains_more, among_more}
 use Rattle.sig_solve.proofs.ListLemmas.{get_beyond}
 use Rattle.sig_solve.proofs.PinnedLemmas.{get_take}
-use Rattle.sig_solve.proofs.TruthLemmas.{contains_before, contains_end}
 
 module _ (frame : Frame) (layers : List ℕ) (guards : List Ref) (root : SigId) where
   pub firsts_begin : (firsts : List SigId) → firsts ≡ root ∷ [] → AreFirsts frame layers guards root [] firsts
@@ -21,10 +20,10 @@ module _ (frame : Frame) (layers : List ℕ) (guards : List Ref) (root : SigId) 
     firsts_stay k c at same = record {
       root_is = are.root_is;
       differ = are.differ;
-      all = λ s there. elim (contains_end done x s there) [ inl before ↦ are.all s before | inr e ↦ (k, c, at, same ∙ ap (λ (y : SigId). guard_at frame guards y.0) (sym e)) ];
-      listed = λ i d pos at_i. contains_before done x d (are.listed i d pos at_i);
+      all = λ s there. elim (among_more done x s there) [ inl before ↦ are.all s before | inr e ↦ (k, c, at, same ∙ ap (λ (y : SigId). guard_at frame guards y.0) (sym e)) ];
+      listed = λ i d pos at_i. contains_more done x d (are.listed i d pos at_i);
       later = are.later;
-      first = λ i d s pos at_i there own. elim (contains_end done x s there) [
+      first = λ i d s pos at_i there own. elim (among_more done x s there) [
         | inl before ↦ are.first i d s pos at_i before own
         | inr e ↦ inr (subst (λ y. Precedes frame layers d y) (sym e) (order d (are.listed i d pos at_i)))
       ];
@@ -35,19 +34,19 @@ module _ (frame : Frame) (layers : List ℕ) (guards : List Ref) (root : SigId) 
     firsts_more firsts' is new = subst (λ xs. AreFirsts frame layers guards root (done ++ x ∷ []) xs) (sym is) (record {
       root_is = get_before firsts (x ∷ []) 0 (slice_get_within firsts 0 root are.root_is) ∙ are.root_is;
       differ = λ i j c d at_i at_j same. by_differ i j c d (get_beyond firsts x c i at_i) (get_beyond firsts x d j at_j) at_i at_j same;
-      all = λ s there. elim (contains_end done x s there) [
+      all = λ s there. elim (among_more done x s there) [
         | inl before ↦ (let found = are.all s before in (found.0, found.1, get_before firsts (x ∷ []) found.0 (slice_get_within firsts found.0 found.1 found.2) ∙ found.2, found.3))
         | inr e ↦ (length firsts, x, get_last firsts x, ap (λ (y : SigId). guard_at frame guards y.0) (sym e))
       ];
       listed = λ i c pos at. elim (get_beyond firsts x c i at) [
-        | inl lt ↦ contains_before done x c (are.listed i c pos (old i c lt at))
+        | inl lt ↦ contains_more done x c (are.listed i c pos (old i c lt at))
         | inr last ↦ subst (λ y. Contains (done ++ x ∷ []) y) last.1 (contains_last done x)
       ];
       later = λ i j c d pos lt at_i at_j. elim (get_beyond firsts x d j at_j) [
         | inl within ↦ are.later i j c d pos lt (old i c (omega (arith, lt, within)) at_i) (old j d within at_j)
         | inr last ↦ (let within : i < length firsts = omega (arith, lt, last.0) in subst (λ y. Precedes frame layers c y) last.1 (order c (are.listed i c pos (old i c within at_i))))
       ];
-      first = λ i c s pos at there own. by_first i c s pos at own (get_beyond firsts x c i at) (contains_end done x s there);
+      first = λ i c s pos at there own. by_first i c s pos at own (get_beyond firsts x c i at) (among_more done x s there);
     }) where
       old : (i : ℕ) (c : SigId) → i < length firsts → slice_get (firsts ++ x ∷ []) i ≡ Some c → slice_get firsts i ≡ Some c
       old i c lt at = sym (get_before firsts (x ∷ []) i lt) ∙ at

@@ -10,16 +10,14 @@ use Rattle.sig_solve.proofs.TruthLemmas.{is_in, mixed, mixed_at, mixed_outside}
 not_depends : (f : List Bool → Bool) (v : ℕ) (ts : List Bool) → (Depends f v → ⊥) → f (with_truth ts v false) ≡ f (with_truth ts v true)
 not_depends f v ts not = by (f (with_truth ts v false)) (f (with_truth ts v true)) refl refl where
   by : (a b : Bool) → f (with_truth ts v false) ≡ a → f (with_truth ts v true) ≡ b → f (with_truth ts v false) ≡ f (with_truth ts v true)
-  by true true e d = e ∙ sym d
-  by false false e d = e ∙ sym d
   by true false e d = absurd (not (ts, λ same. false≢true (sym d ∙ sym same ∙ e)))
   by false true e d = absurd (not (ts, λ same. false≢true (sym e ∙ same ∙ d)))
+  by _ _ e d = e ∙ sym d
 
 -- the marks of conditions that are not known
 marks_read : (known conditions : List SigId) (v : ℕ) → get_or (map (λ (c : SigId). is_unknown_to known (Some c)) conditions) v true ≡ is_unknown conditions known v
-marks_read known [] v = refl
-marks_read known (c ∷ conditions) zero = refl
 marks_read known (c ∷ conditions) (suc v) = marks_read known conditions v
+marks_read known _ _ = refl
 
 module _ (kernel : Kernel) (store : StoreView) (system : SystemView) (is : IsFreeIn kernel store system) where
   abbrev nodes : List Node
@@ -126,10 +124,9 @@ module _ (kernel : Kernel) (store : StoreView) (system : SystemView) (is : IsFre
   -- a presence that does not depend on a proposal is the same with either truth of it
   same_presence_beside : (d v : ℕ) (ts : List Bool) → (Depends (test store.nodes (get_or system.present d system.residue)) v → ⊥) → (a b : Bool)
       → test store.nodes (get_or system.present d system.residue) (with_truth ts v a) ≡ test store.nodes (get_or system.present d system.residue) (with_truth ts v b)
-  same_presence_beside d v ts not false false = refl
-  same_presence_beside d v ts not true true = refl
   same_presence_beside d v ts not false true = not_depends (test store.nodes (get_or system.present d system.residue)) v ts not
   same_presence_beside d v ts not true false = sym (not_depends (test store.nodes (get_or system.present d system.residue)) v ts not)
+  same_presence_beside d v ts not _ _ = refl
 
   -- two truths of one proposal read off the same presence, where they read off the same statuses of the known conditions
   same_where_agreed : (Known : ℕ → Type 0) (s v : ℕ) (ts : List Bool) → s < length kernel.signals → IsDetermined kernel Known s → AgreeOn kernel Known (reading store.nodes system (with_truth ts v false)) (reading store.nodes system (with_truth ts v true))

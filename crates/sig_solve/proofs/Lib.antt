@@ -53,5 +53,4 @@ pub use SystemRooms.*
 pub use TriangleLemmas.*
 pub use WalkLemmas.*
 pub use Rattle.sig_solve.proofs.FreeLemmas.{number_of, speaks_read}
-pub use Rattle.sig_solve.proofs.RoundLemmas.{conditions_few}
 pub use Rattle.sig_solve.proofs.SystemLemmas.{presence_at, presence_over, presence_read}

@@ -1,8 +1,5 @@
 -- Lemmas on lists: what a filter keeps, and one more element.
-use Rattle.sig_solve.proofs.Common.{◌≡◌, ◌≢◌, ◌<◌, ◌+◌, ◌⊎◌, inl, inr, ℕ, List, [], ◌∷◌, ◌++◌, length, get_or-set_other, set, take, refl, ap, ◌∙◌, arith, zero, suc, filter, None, Some, slice_get, length-set, cases_eq, take_more, get_or_from_slice_get, slice_get-get_or, slice_get_within}
-
-last_or_less : (k n : ℕ) → k < suc n → (k ≡ n) ⊎ (k < n)
-last_or_less k n lt = elim (cases_eq k n) [ inl e ↦ inl e | inr ne ↦ inr (omega (arith, lt, ne)) ]
+use Rattle.sig_solve.proofs.Common.{◌≡◌, ◌≢◌, ◌<◌, ◌+◌, ◌⊎◌, inl, inr, ℕ, List, [], ◌∷◌, ◌++◌, length, get_or-set_other, set, take, refl, ap, ◌∙◌, arith, zero, suc, None, Some, slice_get, length-set, take_more, get_or_from_slice_get, slice_get-get_or, slice_get_within}
 
 pub take_next : {X : Type 0} (xs : List X) (k : ℕ) (x : X) → slice_get xs k ≡ Some x → take (k + 1) xs ≡ take k xs ++ x ∷ []
 take_next xs k x is = take_more xs k x (slice_get_within xs k x is) ∙ ap (λ y. take k xs ++ y ∷ []) (get_or_from_slice_get xs k x x is)

@@ -16,10 +16,9 @@ taken_below xs n k lt = omega (arith, length-take n xs, lt)
 
 pub get_take : {X : Type 0} (xs : List X) (n k : ℕ) → k < n → slice_get (take n xs) k ≡ slice_get xs k
 get_take [] zero k lt = absurd (omega (arith, lt))
-get_take [] (suc n) k lt = refl
 get_take (x ∷ xs) zero k lt = absurd (omega (arith, lt))
-get_take (x ∷ xs) (suc n) zero lt = refl
 get_take (x ∷ xs) (suc n) (suc k) lt = get_take xs n k (omega (arith, lt))
+get_take _ (suc n) _ lt = refl
 
 module _ (kernel : Kernel) (conditions : List SigId) (order : AreInOrder kernel conditions) (place : ℕ) (b : SigId) (at : slice_get conditions place ≡ Some b) where
   among_earlier : (c : ℕ) → IsAmong (take place conditions) c → IsEarlier kernel c b.0

@@ -1,5 +1,5 @@
 -- Lemmas on the room of a triangular kernel's systems.
-use Rattle.sig_solve.proofs.Common.{◌≡◌, ◌≤◌, ◌+◌, ◌*◌, ◌^◌, inl, inr, ℕ, length, refl, sym, subst, arith, Result, Ok, Err, IfErr, IsErrAnd, Kernel, StoreView, DdAnswer, Budget as StoreBudget, OutOfMemory as NoMemory, conditions_of, IsRefusedFor, KeepsToShare, KeepsToTriangularShare, triangular_share_of as system_share_of, IsTriangular, RelAnswer, HasNoRoom, IsFromRelation, IsFromStore, IsSystemRoom, IsWithin, ClockAnswer, Dead, MissingRoot, Unsolved, Pinned}
+use Rattle.sig_solve.proofs.Common.{◌≡◌, ◌≤◌, ◌+◌, ◌*◌, ◌^◌, inl, inr, ℕ, length, refl, sym, subst, arith, Result, Ok, Err, IfErr, IsErrAnd, Kernel, StoreView, DdAnswer, Budget as StoreBudget, OutOfMemory as NoMemory, conditions_of, IsRefusedFor, KeepsToShare, KeepsToTriangularShare, triangular_share_of as system_share_of, IsTriangular, RelAnswer, HasNoRoom, IsFromRelation, IsFromStore, IsSystemRoom, IsWithin, ClockAnswer}
 use Rattle.sig_solve.specs.Refusals.{triangular_share_of}
 use Rattle.sig_solve.specs.declared.answer.ClockAnswer.TheVariants.{Budget, OutOfMemory}
 use Rattle.sig_solve.proofs.CountLemmas.{within_equal, within_relation}
@@ -40,13 +40,8 @@ within_passed room old new (Err d) e is added refused = record { added = added; 
 pub within_more : {T : Type 0} (a b : ℕ) (old new : StoreView) (result : Result T ClockAnswer) → a ≤ b → IsWithin a old new result → IsWithin b old new result
 within_more {T} a b old new result le within = record { added = omega (arith, le, within.added); refused = by result within.refused } where
   by : (result : Result T ClockAnswer) → IfErr result (HasNoRoom old new a) → IfErr result (HasNoRoom old new b)
-  by (Ok x) room = tt
-  by (Err Dead) room = tt
-  by (Err (MissingRoot x y)) room = tt
-  by (Err (Unsolved x)) room = tt
-  by (Err (Pinned c)) room = tt
   by (Err (Budget k)) room = (room.0, let lt = room.1 in omega (arith, lt, le))
-  by (Err OutOfMemory) room = tt
+  by _ room = tt
 
 -- two systems keep to the whole shares
 pub two_systems : (kernel : Kernel) → system_share_of kernel + system_share_of kernel ≤ triangular_share_of kernel

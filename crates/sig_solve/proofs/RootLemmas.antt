@@ -1,5 +1,5 @@
 -- Lemmas on roots, and on signals that are met in a part of the solutions.
-use Rattle.sig_solve.proofs.Common.{◌≡◌, ◌<◌, ◌≤◌, ◌⊎◌, inl, inr, ◌↔◌, ℕ, Bool, true, false, not, eqb, List, [], ◌∷◌, length, get_or, refl, sym, ap, ◌∙◌, subst, arith, Contains, IsTrue, zero, suc, None, Some, AllPairs, range_with_len, cases_eq, cases_lt, false≢true, get_or_default, AllPairs-filter, get_or-range_with_len, length-range_with_len, Kernel, itself, HasNoRoot, IsLeast, IsMissingRoot, IsRoot, Reaction, Speaks, is_present, is_silent, StoreView, Implies, Overlap, test, Ref, IsSolution, reading, all_statuses, IsAskedIn, IsMet, IsFrame, leaders_of, Frame, Asked, cases_Bool}
+use Rattle.sig_solve.proofs.Common.{◌≡◌, ◌<◌, ◌≤◌, ◌⊎◌, inl, inr, ◌↔◌, ℕ, Bool, true, false, not, eqb, List, [], ◌∷◌, length, get_or, sym, ap, ◌∙◌, subst, arith, Contains, IsTrue, zero, suc, Some, AllPairs, range_with_len, cases_eq, cases_lt, false≢true, get_or_default, AllPairs-filter, get_or-range_with_len, length-range_with_len, Kernel, itself, HasNoRoot, IsLeast, IsMissingRoot, IsRoot, Reaction, Speaks, is_present, StoreView, Implies, Overlap, test, Ref, IsSolution, reading, all_statuses, IsAskedIn, IsMet, IsFrame, leaders_of, Frame, Asked, cases_Bool, someone}
 use Rattle.sig_solve.proofs.FrameLemmas.{leader_in, leader_is, least_below}
 use Rattle.sig_solve.proofs.SystemLemmas.{presence_at, presence_read}
 
@@ -14,14 +14,8 @@ ordered_leaders least leaders is =
     let R : ℕ → ℕ → Type 0 = λ x y. x < y in
     subst (λ (xs : List ℕ). AllPairs R xs) (sym is) (AllPairs-filter R (λ s. eqb (get_or least s 0) s) (range_with_len 0 (length least)) (ordered_range (length least)))
 
--- a signal that is present, where not all are absent
-some_present : (reaction : Reaction) → is_silent reaction ≡ false → (s : ℕ) × (s < length reaction) × (is_present reaction s ≡ true)
-some_present [] loud = absurd (false≢true (sym loud))
-some_present (None ∷ reaction) loud = let rest = some_present reaction loud in (suc rest.0, omega (arith, rest.1), rest.2)
-some_present (Some b ∷ reaction) loud = (0, omega arith, refl)
-
 -- what is present is among the signals
-present_within : (reaction : Reaction) (s : ℕ) → is_present reaction s ≡ true → s < length reaction
+pub present_within : (reaction : Reaction) (s : ℕ) → is_present reaction s ≡ true → s < length reaction
 present_within [] s present = absurd (false≢true present)
 present_within (status ∷ reaction) zero present = omega arith
 present_within (status ∷ reaction) (suc s) present = omega (arith, present_within reaction s present)
@@ -124,7 +118,7 @@ module _ (store : StoreView) (asked : Asked) (is : IsAskedIn store asked) where
 
     -- such a reaction has some signal
     pub some_met : (r : Reaction) → Speaks asked.frame.kernel.now r → Q r → ((s : ℕ) → IsMet store.nodes asked part s → ⊥) → ⊥
-    some_met r speaks q none = let at = some_present r speaks.some in none at.0 (possible_met r at.0 speaks q at.2)
+    some_met r speaks q none = let at = someone r speaks.some in none at.0 (possible_met r at.0 speaks q at.2)
 
   pub solutions_say : (ts : List Bool) → IsTrue (test store.nodes asked.solutions ts) ↔ (IsSolution store.nodes asked.system ts × Unit {0})
   solutions_say ts = ((λ t. ((is.solutions ts).0 t, tt)), (λ both. (is.solutions ts).1 both.0))

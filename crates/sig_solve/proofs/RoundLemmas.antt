@@ -1,6 +1,5 @@
 -- Lemmas on rounds.
-use Rattle.sig_solve.proofs.Common.{◌≡◌, ◌≢◌, ◌<◌, ◌≤◌, ◌+◌, ◌⊎◌, inl, inr, ℕ, true, eqb, count_by, List, [], ◌∷◌, ◌++◌, length, get_or, set, drop, drop-cons, replicate, filter, sym, ap, ◌∙◌, subst, arith, Contains, get_or-set_same, get_or-set_other, zero, suc, length-set, cases_eq, cases_lt, lt-ltb, ltb-true, range_with_len, get_or-replicate, length-replicate, length_push, length-range_with_len, count_by-le-length, length-filter, all_pairs_push, SigId, Kernel, conditions_of, is_condition, signal_id, EntersBy, HasLayer, IsDetermined, SameClock, turned, enters_stays, present_together, IsAmong, AreEntered, AreIncreasing, ArePassed, AreRounds, AreSettled, has_entered, Frame, IsFrame, contains_cons, contains_head, contains_last, contains_later, contains_mapped, contains_none, mapped_from, in_filter, of_filter, length-map}
-use Rattle.sig_solve.proofs.TruthLemmas.{contains_before, contains_end}
+use Rattle.sig_solve.proofs.Common.{◌≡◌, ◌≢◌, ◌<◌, ◌≤◌, ◌+◌, ◌⊎◌, inl, inr, ℕ, true, eqb, count_by, List, [], ◌∷◌, ◌++◌, length, get_or, set, drop, drop-cons, replicate, filter, sym, ap, ◌∙◌, subst, arith, Contains, get_or-set_same, get_or-set_other, zero, suc, length-set, cases_eq, cases_lt, lt-ltb, ltb-true, range_with_len, get_or-replicate, length-replicate, length_push, length-range_with_len, count_by-le-length, length-filter, all_pairs_push, SigId, Kernel, conditions_of, is_condition, signal_id, EntersBy, HasLayer, IsDetermined, SameClock, turned, enters_stays, present_together, IsAmong, AreEntered, AreIncreasing, ArePassed, AreRounds, AreSettled, has_entered, Frame, IsFrame, contains_cons, contains_head, contains_last, contains_later, contains_mapped, contains_none, mapped_from, in_filter, of_filter, contains_more, among_more}
 use Rattle.sig_solve.proofs.FrameLemmas.{leader_in, leader_is}
 use Rattle.sig_solve.proofs.ReactionLemmas.{condition_is_signal}
 use Rattle.sig_solve.proofs.RootLemmas.{ordered_leaders}
@@ -67,18 +66,18 @@ module _ (frame : Frame) (is : IsFrame frame) (round : ℕ) where
     count = are.count;
     increasing = all_pairs_push (λ a b. a < b) still x are.increasing (λ k d lt. are.before (get_or still k d) x (k, lt, Rattle.std.proofs.lemmas.List.get_or_default still k (get_or still k d) d lt) (contains_head x rest));
     later = increasing_rest x rest are.later;
-    before = λ s t in_still in_rest. elim (contains_end still x s in_still) [
+    before = λ s t in_still in_rest. elim (among_more still x s in_still) [
       | inl there ↦ are.before s t there (contains_later x t rest in_rest)
       | inr e ↦ subst (λ w. w < t) (sym e) (increasing_head x rest are.later t in_rest)
     ];
     entered = are.entered;
-    left = λ s in_still. elim (contains_end still x s in_still) [
+    left = λ s in_still. elim (among_more still x s in_still) [
       | inl there ↦ are.left s there
       | inr e ↦ subst (λ w. Contains frame.leaders.items w × (EntersBy frame.kernel.now (suc round) w → ⊥)) (sym e) ((are.unknown x (contains_head x rest)).0, not)
     ];
     unknown = λ s in_rest. are.unknown s (contains_later x s rest in_rest);
     all = λ s leads none. elim (are.all s leads none) [
-      | inl there ↦ inl (contains_before still x s there)
+      | inl there ↦ inl (contains_more still x s there)
       | inr there ↦ elim (contains_cons x s rest there) [
         | inl e ↦ inl (subst (λ w. Contains (still ++ x ∷ []) w) (sym e) (contains_last still x))
         | inr later ↦ inr later
@@ -154,7 +153,7 @@ stuck_more still still' waiting i same before full k lt =
     subst (λ xs. Contains xs (get_or waiting k 0)) (sym same)
     (elim (cases_eq k i) [
       | inl e ↦ subst (λ j. Contains (still ++ get_or waiting i 0 ∷ []) (get_or waiting j 0)) (sym e) (contains_last still (get_or waiting i 0))
-      | inr ne ↦ contains_before still (get_or waiting i 0) (get_or waiting k 0) (before count k (omega (arith, lt, ne)))
+      | inr ne ↦ contains_more still (get_or waiting i 0) (get_or waiting k 0) (before count k (omega (arith, lt, ne)))
     ])
 
 -- the conditions of a kernel, in a list
@@ -247,13 +246,3 @@ leaders_fewer frame is =
     let count : length frame.leaders.items ≡ count_by p range = ap length is.leaders ∙ length-filter p range in
     let few = count_by-le-length p range in
     omega (arith, count, few, length-range_with_len 0 (length frame.least.items), is.least.count)
-
-pub conditions_few : (kernel : Kernel) → length (conditions_of kernel) ≤ length kernel.signals
-conditions_few kernel =
-    omega (
-      arith,
-      length-map (filter (is_condition kernel) (range_with_len 0 (length kernel.signals))) signal_id,
-      length-filter (is_condition kernel) (range_with_len 0 (length kernel.signals)),
-      count_by-le-length (is_condition kernel) (range_with_len 0 (length kernel.signals)),
-      length-range_with_len 0 (length kernel.signals),
-    )

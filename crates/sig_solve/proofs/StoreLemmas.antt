@@ -1,9 +1,5 @@
 -- Lemmas on calls of a store, one after another.
-use Rattle.sig_solve.proofs.Common.{◌≡◌, ◌<◌, ◌≤◌, ◌+◌, ◌*◌, ℕ, Bool, List, get_or, inl, inr, refl, sym, subst, arith, Option, None, Some, Result, Ok, Err, IsErrAnd, cases_eq, mul-le-mul_left, mul-le-mul_right, StoreView, Holds, Keeps, allowance, test, Share, refusal, DdAnswer, Budget, OutOfMemory, Ref, Share-none, Share-then, Share-wider, refusal_is, Agree-kept}
-
--- older truths stay
-pub older_test : (old new : StoreView) → Keeps old new → (f : Ref) → Holds old.nodes f → (truths : List Bool) → test new.nodes f truths ≡ test old.nodes f truths
-older_test old new kept f held truths = Agree-kept old new kept f held truths
+use Rattle.sig_solve.proofs.Common.{◌≡◌, ◌<◌, ◌≤◌, ◌+◌, ◌*◌, ℕ, List, get_or, inl, inr, refl, sym, subst, arith, Option, None, Some, Result, Ok, Err, IsErrAnd, cases_eq, mul-le-mul_left, mul-le-mul_right, StoreView, allowance, Share, refusal, DdAnswer, Budget, OutOfMemory, Share-none, Share-then, Share-wider, refusal_is}
 
 pub more_calls : (m n : ℕ) (vs : List ℕ) (s t : StoreView) (why : Option DdAnswer) → m ≤ n → Share m vs s t why → Share n vs s t why
 more_calls m n vs s t why le share = Share-wider s t m n vs vs why (mul-le-mul_right (allowance vs) le) share

@@ -1,6 +1,5 @@
 -- Lemmas on systems: what their truths read off.
-use Rattle.sig_solve.proofs.Common.{◌≡◌, ◌<◌, ℕ, Bool, true, false, List, [], ◌∷◌, length, map, get_or, refl, sym, ap, ◌∙◌, subst, arith, Contains, zero, suc, None, Some, slice_get, is_some, if◌then◌else◌, get_or-range_with_len, length-range_with_len, SigId, Kernel, Allows, KeepsTo, Speaks, is_present, status_at, truth_of, with_truth, IsStore, Keeps, StoreView, test, Node, Ref, Holds-kept, depends_agree, IsOver, IsSolution, IsSystem, IsVariable, SystemView, proposed, reading, status_read, statuses_read, in_range, variables_of, slice_get-get_or}
-use Rattle.sig_solve.proofs.StoreLemmas.{older_test}
+use Rattle.sig_solve.proofs.Common.{◌≡◌, ◌<◌, ℕ, Bool, true, false, List, [], ◌∷◌, length, map, get_or, refl, sym, ap, ◌∙◌, subst, arith, Contains, zero, suc, None, Some, slice_get, is_some, if◌then◌else◌, get_or-range_with_len, length-range_with_len, SigId, Kernel, Allows, KeepsTo, Speaks, is_present, status_at, truth_of, with_truth, IsStore, Keeps, StoreView, test, Node, Ref, Holds-kept, depends_agree, IsOver, IsSolution, IsSystem, IsVariable, SystemView, proposed, reading, status_read, statuses_read, in_range, variables_of, slice_get-get_or, test-kept}
 
 -- what a signal is in what truths read off
 pub status_of_reading : (nodes : List Node) (truths : List Bool) (present truth : List Ref) (s : ℕ) (p t : Ref) → slice_get present s ≡ Some p → slice_get truth s ≡ Some t → status_at (statuses_read nodes truths present truth) s ≡ status_read nodes truths p t
@@ -17,12 +16,11 @@ status_of_reading nodes truths (q ∷ present) (u ∷ truth) (suc s) p t at_p at
 -- where each presence and each truth is the same, the same is read off
 pub same_readings : (m n : List Node) (a b : List Bool) (present truth : List Ref) → ((s : ℕ) (r : Ref) → slice_get present s ≡ Some r → test m r a ≡ test n r b) → ((s : ℕ) (r : Ref) → slice_get truth s ≡ Some r → test m r a ≡ test n r b)
     → statuses_read m a present truth ≡ statuses_read n b present truth
-same_readings m n a b [] truth same_p same_t = refl
-same_readings m n a b (p ∷ present) [] same_p same_t = refl
 same_readings m n a b (p ∷ present) (t ∷ truth) same_p same_t =
     ap (λ x. (if x then Some (test m t a) else None) ∷ statuses_read m a present truth) (same_p 0 p refl)
     ∙ ap (λ x. (if test n p b then Some x else None) ∷ statuses_read m a present truth) (same_t 0 t refl)
     ∙ ap (λ xs. status_read n b p t ∷ xs) (same_readings m n a b present truth (λ s r at. same_p (suc s) r at) (λ s r at. same_t (suc s) r at))
+same_readings m n a b _ _ same_p same_t = refl
 
 some_where : (b truth : Bool) → is_some (if b then Some truth else None) ≡ b
 some_where true truth = refl
@@ -84,18 +82,18 @@ module _ (old new : StoreView) (kept : Keeps old new) (system : SystemView) wher
   pub over_kept : (r : Ref) → IsOver old.nodes system r → IsOver new.nodes system r
   over_kept r over = record {
     held = Holds-kept old new kept r over.held;
-    within = λ v d. over.within v (d.0, λ e. d.1 (older_test old new kept r over.held _ ∙ e ∙ sym (older_test old new kept r over.held _)));
+    within = λ v d. over.within v (d.0, λ e. d.1 (test-kept old new kept r over.held _ ∙ e ∙ sym (test-kept old new kept r over.held _)));
   }
 
   module _ (kernel : Kernel) (is : IsSystem kernel old.nodes system) where
     pub reading_kept : (truths : List Bool) → reading new.nodes system truths ≡ reading old.nodes system truths
-    reading_kept truths = same_readings new.nodes old.nodes truths truths system.present system.truth (λ s r at. older_test old new kept r (is.present s r at).held truths) (λ s r at. older_test old new kept r (is.truth s r at).held truths)
+    reading_kept truths = same_readings new.nodes old.nodes truths truths system.present system.truth (λ s r at. test-kept old new kept r (is.present s r at).held truths) (λ s r at. test-kept old new kept r (is.truth s r at).held truths)
 
     pub solution_older : (truths : List Bool) → IsSolution new.nodes system truths → IsSolution old.nodes system truths
-    solution_older truths solves = (sym (older_test old new kept system.residue is.residue.held truths) ∙ solves.0, sym (older_test old new kept system.speaks is.speaks.held truths) ∙ solves.1)
+    solution_older truths solves = (sym (test-kept old new kept system.residue is.residue.held truths) ∙ solves.0, sym (test-kept old new kept system.speaks is.speaks.held truths) ∙ solves.1)
 
     pub solution_newer : (truths : List Bool) → IsSolution old.nodes system truths → IsSolution new.nodes system truths
-    solution_newer truths solves = (older_test old new kept system.residue is.residue.held truths ∙ solves.0, older_test old new kept system.speaks is.speaks.held truths ∙ solves.1)
+    solution_newer truths solves = (test-kept old new kept system.residue is.residue.held truths ∙ solves.0, test-kept old new kept system.speaks is.speaks.held truths ∙ solves.1)
 
     pub system_kept : IsSystem kernel new.nodes system
     system_kept = record {

@@ -1,12 +1,11 @@
 -- The first class of a triangular kernel's list is a root.
-use Rattle.sig_solve.proofs.Common.{◌≡◌, ◌<◌, ◌⊎◌, inl, inr, ℕ, true, false, List, [], ◌∷◌, length, take, get_or, refl, sym, ap, ◌∙◌, subst, arith, Contains, zero, suc, Option, None, Some, option_map, slice_get, is_some, and_parts, false≢true, ltb-true, IsValid, Equation, Form, Fun, Delay, When, WhenConst, Default, Sync, Event, Kernel, IsRoot, IsReaction, Reaction, Status, is_present, is_silent, meets, or_else, status_at, where_true, AreLeast, present_together, statuses_are_same, AreClassesInOrder, Governs, IsTriangle, IsTriangular, MayStand, classes_among, form_at, operand_signals, Element, Presence, Truth, all_statuses, form_within, taken_get, at_contained, contains_at, contains_head, contains_later, get_or_from_slice_get, slice_get_within}
+use Rattle.sig_solve.proofs.Common.{◌≡◌, ◌<◌, ◌⊎◌, inl, inr, ℕ, true, false, List, [], ◌∷◌, length, take, get_or, refl, sym, ap, ◌∙◌, subst, arith, Contains, zero, suc, Option, None, Some, option_map, slice_get, is_some, and_parts, false≢true, ltb-true, IsValid, Equation, Form, When, WhenConst, Default, Kernel, IsRoot, IsReaction, Reaction, Status, is_present, meets, or_else, status_at, where_true, AreLeast, present_together, statuses_are_same, AreClassesInOrder, Governs, IsTriangle, IsTriangular, MayStand, classes_among, form_at, operand_signals, Element, Presence, Truth, all_statuses, form_within, taken_get, at_contained, contains_at, contains_head, contains_later, get_or_from_slice_get, slice_get_within, someone}
 use Rattle.sig_solve.proofs.FrameLemmas.{least_below, least_twice}
 
 -- where a sampling is present, its operands are
 sampled : (b x : Status) → is_some (where_true b x) ≡ true → (is_some b ≡ true) × (is_some x ≡ true)
-sampled None x is = absurd (false≢true is)
 sampled (Some true) x is = (refl, is)
-sampled (Some false) x is = absurd (false≢true is)
+sampled _ x is = absurd (false≢true is)
 
 -- where a merge is present, an operand is
 merged : (u v : Status) → is_some (or_else u v) ≡ true → (is_some u ≡ true) ⊎ (is_some v ≡ true)
@@ -26,8 +25,6 @@ module _ (kernel : Kernel) (valid : IsValid kernel) (least : List ℕ) (are : Ar
   class_present s lt = present_together kernel reaction s (get_or least s 0) is (are.same s lt)
 
   operand_of : (class : ℕ) (form : Form) → form_within (length kernel.signals) form ≡ true → Governs least class form → meets kernel.signals reaction form ≡ true → is_present reaction class ≡ true → HasOperand kernel reaction form
-  operand_of class (Fun y op operands) within governs met here = absurd governs
-  operand_of class (Delay y x initial) within governs met here = absurd governs
   operand_of class (When y x b) within governs met here =
       let y_lt = ltb-true y.0 (length kernel.signals) (and_parts _ _ within).0 in
       let x_lt = ltb-true x.0 (length kernel.signals) (and_parts _ _ (and_parts _ _ within).1).0 in
@@ -50,8 +47,7 @@ module _ (kernel : Kernel) (valid : IsValid kernel) (least : List ℕ) (are : Ar
         | inl u_here ↦ record { x = u.0; among = contains_head u.0 (v.0 ∷ []); below = u_lt; here = u_here }
         | inr v_here ↦ record { x = v.0; among = contains_later u.0 v.0 (v.0 ∷ []) (contains_head v.0 []); below = v_lt; here = v_here }
       ]
-  operand_of class (Sync x y) within governs met here = absurd governs
-  operand_of class (Event y x) within governs met here = absurd governs
+  operand_of class _ within governs met here = absurd governs
 
   -- an equation of the kernel is met, and its signals are the kernel's
   form_is : (number : ℕ) (form : Form) → form_at kernel number ≡ Some form → (form_within (length kernel.signals) form ≡ true) × (meets kernel.signals reaction form ≡ true)
@@ -84,17 +80,11 @@ module _ (kernel : Kernel) (valid : IsValid kernel) (least : List ℕ) (are : Ar
         let before = taken_get (suc k) list there.0 (Presence (get_or least operand.x 0)) (at_contained (take (suc k) list) (Presence (get_or least operand.x 0)) there) in
         first_present n there.0 (get_or least operand.x 0) (omega (arith, before.0, lt)) before.1 (sym (class_present operand.x operand.below) ∙ operand.here)
 
--- a reaction that is not silent has a signal
-some_present : (reaction : Reaction) → is_silent reaction ≡ false → (s : ℕ) × (s < length reaction) × (is_present reaction s ≡ true)
-some_present [] not_silent = absurd (false≢true (sym not_silent))
-some_present (Some b ∷ reaction) not_silent = (0, omega arith, refl)
-some_present (None ∷ reaction) not_silent = let rest = some_present reaction not_silent in (suc rest.0, omega (arith, rest.1), rest.2)
-
 pub top_is_root : (kernel : Kernel) → IsValid kernel → (least : List ℕ) → AreLeast kernel least → (list : List Element) (triangle : IsTriangle kernel least list) → IsRoot kernel triangle.top
 top_is_root kernel valid least are list triangle = record {
   is = ((triangle.classes triangle.top).0 (contains_at list 0 (Presence triangle.top) triangle.first)).0;
   everywhere = λ reaction speaks.
-      let some = some_present reaction speaks.some in
+      let some = someone reaction speaks.some in
       let lt : some.0 < length kernel.signals = omega (arith, some.1, all_statuses kernel.signals reaction speaks.is.kinds) in
       let there = (triangle.classes (get_or least some.0 0)).1 (least_below kernel least are some.0 lt, least_twice kernel least are some.0 lt) in
       first_present kernel valid least are reaction speaks.is list triangle (suc there.0) there.0 (get_or least some.0 0) (omega arith) (at_contained list (Presence (get_or least some.0 0)) there)

@@ -1,5 +1,5 @@
 -- Lemmas on truths and on lists of variables.
-use Rattle.sig_solve.proofs.Common.{◌≡◌, ◌≢◌, ◌⊎◌, inl, inr, ℕ, Bool, List, [], ◌∷◌, ◌++◌, refl, sym, ◌∙◌, subst, Contains, cases_eq, truth_of, with_truth, truth_of-with_same, truth_of-with_other, contains_cons, contains_head, contains_later, contains_none}
+use Rattle.sig_solve.proofs.Common.{◌≡◌, ◌≢◌, ◌⊎◌, inl, inr, ℕ, Bool, List, [], ◌∷◌, refl, sym, ◌∙◌, subst, Contains, cases_eq, truth_of, with_truth, truth_of-with_same, truth_of-with_other, contains_cons, contains_head, contains_later, contains_none}
 
 -- a variable is in a list, or not
 pub is_in : (xs : List ℕ) (v : ℕ) → Contains xs v ⊎ (Contains xs v → ⊥)
@@ -9,20 +9,6 @@ is_in (x ∷ xs) v = by (cases_eq v x) (is_in xs v) where
   by (inl e) rest = inl (subst (λ w. Contains (x ∷ xs) w) (sym e) (contains_head x xs))
   by (inr ne) (inl later) = inl (contains_later x v xs later)
   by (inr ne) (inr not) = inr (λ there. elim (contains_cons x v xs there) [ inl e ↦ ne e | inr later ↦ not later ])
-
-pub contains_end : {X : Type 0} (xs : List X) (x y : X) → Contains (xs ++ x ∷ []) y → Contains xs y ⊎ (y ≡ x)
-contains_end [] x y there = elim (contains_cons x y [] there) [ inl e ↦ inr e | inr later ↦ absurd (contains_none y later) ]
-contains_end (z ∷ xs) x y there = elim (contains_cons z y (xs ++ x ∷ []) there) [
-  | inl e ↦ inl (subst (λ w. Contains (z ∷ xs) w) (sym e) (contains_head z xs))
-  | inr later ↦ elim (contains_end xs x y later) [ inl in_xs ↦ inl (contains_later z y xs in_xs) | inr e ↦ inr e ]
-]
-
-pub contains_before : {X : Type 0} (xs : List X) (x y : X) → Contains xs y → Contains (xs ++ x ∷ []) y
-contains_before [] x y there = absurd (contains_none y there)
-contains_before (z ∷ xs) x y there = elim (contains_cons z y xs there) [
-  | inl e ↦ subst (λ w. Contains (z ∷ xs ++ x ∷ []) w) (sym e) (contains_head z (xs ++ x ∷ []))
-  | inr later ↦ contains_later z y (xs ++ x ∷ []) (contains_before xs x y later)
-]
 
 -- truths that are those of one list at some variables, and of another one elsewhere
 pub mixed : List ℕ → List Bool → List Bool → List Bool

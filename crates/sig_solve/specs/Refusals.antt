@@ -1,6 +1,6 @@
 -- Why a kernel has no clocks, and how many nodes solving may add.
 use Rattle.std.specs.Prelude.{◌≡◌, ◌+◌, ◌*◌, ◌^◌, ◌<◌, ◌≤◌, ◌⊎◌}
-use Rattle.sig_solve.specs.Prelude.{ℕ, length, Option, None, Some, Result, Ok, Err, IfErr, IsFirstPinned, IsMissingRoot, IsUnsolved, IsDead, StoreView, IsFull, DdAnswer, Budget as StoreBudget, OutOfMemory as NoMemory, Kernel, conditions_of, IsUnknownCount, triangular_share_of as system_share_of, IsTriangular, RelAnswer, RelationBudget, NoRelation}
+use Rattle.sig_solve.specs.Prelude.{ℕ, length, Option, None, Some, Result, Err, IfErr, IsFirstPinned, IsMissingRoot, IsUnsolved, IsDead, StoreView, IsFull, DdAnswer, Budget as StoreBudget, OutOfMemory as NoMemory, Kernel, conditions_of, IsUnknownCount, triangular_share_of as system_share_of, IsTriangular, RelAnswer, RelationBudget, NoRelation}
 use Rattle.sig_solve.specs.declared.answer.ClockAnswer.{ClockAnswer}
 use Rattle.sig_solve.specs.declared.answer.ClockAnswer.TheVariants.{Dead, MissingRoot, Unsolved, Pinned, Budget, OutOfMemory}
 
@@ -23,13 +23,9 @@ IsRefusalOf kernel OutOfMemory = Unit {0}
 
 -- what the store refused, if it did
 abbrev pub store_refusal : {T : Type 0} → Result T ClockAnswer → Option DdAnswer
-store_refusal (Ok x) = None
-store_refusal (Err Dead) = None
-store_refusal (Err (MissingRoot x y)) = None
-store_refusal (Err (Unsolved x)) = None
-store_refusal (Err (Pinned b)) = None
 store_refusal (Err (Budget nodes)) = Some (StoreBudget nodes)
 store_refusal (Err OutOfMemory) = Some NoMemory
+store_refusal _ = None
 
 -- how many nodes solving a kernel of so many unknowns may add
 abbrev pub share_of : Kernel → ℕ → ℕ
@@ -37,12 +33,8 @@ share_of kernel unknowns = 2 ^ unknowns * 60 * (length kernel.equations + unknow
 
 -- a refusal for the number of nodes comes where the store is full and, before the call, would have had no room for the share
 abbrev pub HasNoRoom : StoreView → StoreView → ℕ → ClockAnswer → Type 0
-HasNoRoom old new room Dead = Unit {0}
-HasNoRoom old new room (MissingRoot x y) = Unit {0}
-HasNoRoom old new room (Unsolved x) = Unit {0}
-HasNoRoom old new room (Pinned b) = Unit {0}
 HasNoRoom old new room (Budget n) = IsFull new n × (n < length old.nodes + room)
-HasNoRoom old new room OutOfMemory = Unit {0}
+HasNoRoom old new room _ = Unit {0}
 
 -- nodes were added within this room, or there was none
 pub record IsWithin {T : Type 0} (room : ℕ) (old new : StoreView) (result : Result T ClockAnswer) : Type 0 where

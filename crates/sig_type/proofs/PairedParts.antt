@@ -45,9 +45,8 @@ IsRefused scope both = DoesNotTake (Some both.1.kind) (kind_of scope both.0)
 
 -- whether one of these is refused
 abbrev pub AnyRefused : List Declaration → List Expression → List Declaration → Type 0
-AnyRefused scope [] inputs = ⊥
-AnyRefused scope (e ∷ es) [] = ⊥
 AnyRefused scope (e ∷ es) (d ∷ ds) = DoesNotTake (Some d.kind) (kind_of scope e) ⊎ AnyRefused scope es ds
+AnyRefused scope _ _ = ⊥
 
 no_wanted : (given : Option Kind) → DoesNotTake None given → ⊥
 no_wanted given h = let e : None ≡ Some h.0 = h.2 in cc
@@ -64,17 +63,15 @@ refused_append scope (x ∷ es) (d ∷ ds) e =
     )
 
 any_first : (scope : List Declaration) (es : List Expression) (ds : List Declaration) (k : ℕ) (x : Expression × Declaration) → k < length (zip es ds) → get_or (zip es ds) k x ≡ x → IsRefused scope x → AnyRefused scope es ds
-any_first scope [] ds k x h e r = absurd (omega arith)
-any_first scope (y ∷ es) [] k x h e r = absurd (omega arith)
 any_first scope (y ∷ es) (d ∷ ds) zero x h e r = inl (let P : Expression × Declaration → Type 0 = λ b. IsRefused scope b in subst P (sym e) r)
 any_first scope (y ∷ es) (d ∷ ds) (suc k) x h e r = inr (any_first scope es ds k x (omega arith) e r)
+any_first scope _ _ k x h e r = absurd (omega arith)
 
 any_of : (scope : List Declaration) (es : List Expression) (ds : List Declaration) → AnyRefused scope es ds → Any (IsRefused scope) (zip es ds)
-any_of scope [] ds h = absurd h
-any_of scope (y ∷ es) [] h = absurd h
 any_of scope (y ∷ es) (d ∷ ds) (inl r) = (0, (y, d), omega arith, refl, r)
 any_of scope (y ∷ es) (d ∷ ds) (inr h) = let rest : Any (IsRefused scope) (zip es ds) = any_of scope es ds h in
     let below : rest.0 < length (zip es ds) = rest.2 in (suc rest.0, rest.1, omega arith, rest.3, rest.4)
+any_of scope _ _ h = absurd h
 
 -- the two ways to say it
 pub any_is : (scope : List Declaration) (es : List Expression) (ds : List Declaration) → AnyRefused scope es ds ↔ Any (IsRefused scope) (zip es ds)

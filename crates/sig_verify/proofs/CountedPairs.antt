@@ -6,12 +6,8 @@ use Rattle.sig_verify.proofs.Taken.{four}
 -- ---- what an operation reads
 
 few_of_kind : (scope : Scope) (kind : ImageOpKind) → MayDo scope kind → operands_of kind ≤ 2
-few_of_kind scope (does.Read x) h = omega arith
 few_of_kind scope (does.Fun y op operands) h = let as_many = h.count in let few = count_few op in omega (arith, as_many, few)
-few_of_kind scope (does.Copy y x) h = omega arith
-few_of_kind scope (does.Const y value) h = omega arith
-few_of_kind scope (does.DelayRead y memory) h = omega arith
-few_of_kind scope (does.Store memory x) h = omega arith
+few_of_kind scope other h = omega arith
 
 pub few_operands : (image : ImageView) → IsImage image → (n : ℕ) (op : ImageOp) → slice_get image.ops n ≡ Some op → operands_of op.kind ≤ 2
 few_operands image is n op at = few_of_kind (scope_of image) op.kind (each_at (λ before. IsOperation (scope_of image)) [] image.ops n op is.ops at).kind

@@ -22,12 +22,8 @@ target_writes (does.DelayRead z memory) y e = sym (same_Some z y e)
 target_writes (does.Store memory z) y e = absurd cc
 
 pub no_target : (kind : ImageOpKind) → target_of kind ≡ None → (x : SigId) → Writes kind x → ⊥
-no_target (does.Read z) e x h = cc
-no_target (does.Fun z op operands) e x h = cc
-no_target (does.Copy z source) e x h = cc
-no_target (does.Const z value) e x h = cc
-no_target (does.DelayRead z memory) e x h = cc
 no_target (does.Store memory z) e x h = h
+no_target other e x h = cc
 
 -- ---- what the operations up to one write
 

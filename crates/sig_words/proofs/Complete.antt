@@ -38,13 +38,11 @@ not_empty word c = grind (arith, nat_tests)
 pub joined_step : (option : OptionName) (value : Word) (before : Said)
     → any_step (option_word option (Some value)) before ≡ option_map any_next (with_value option value before)
 joined_step Workers value before = rw (not_empty (name_of Workers ++ (codes "=" ++ value)) 45) refl
-joined_step Capacity value before = rw (not_empty (name_of Capacity ++ (codes "=" ++ value)) 45) refl
-joined_step Instants value before = rw (not_empty (name_of Instants ++ (codes "=" ++ value)) 45) refl
+joined_step option value before = rw (not_empty (name_of option ++ (codes "=" ++ value)) 45) refl
 
 pub apart_step : (option : OptionName) (before : Said) → any_step (codes "--" ++ name_of option) before ≡ Some (next.Value option, before)
 apart_step Workers before = refl
-apart_step Capacity before = refl
-apart_step Instants before = refl
+apart_step _ before = refl
 
 pub pace_step : (before : Said) → any_step (codes "--pace") before ≡ option_map any_next (with_pace before)
 pace_step before = refl

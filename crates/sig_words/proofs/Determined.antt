@@ -7,10 +7,9 @@ use Rattle.sig_words.proofs.Made.{command_same, kept, settings_same, verb_same}
 
 -- a setting comes of one value at most
 one_value : (has : Bool) (low high default : ℕ) (values : List Word) (n : ℕ) → IsSetting has low high default values n → length values ≤ 1
-one_value true low high default [] n is = omega arith
-one_value true low high default (value ∷ []) n is = omega arith
 one_value true low high default (_ ∷ _ ∷ _) n is = absurd is
 one_value false low high default values n is = rw is.0 (omega arith)
+one_value true low high default _ n is = omega arith
 
 one_flag : (has : Bool) (times : ℕ) (given : Bool) → IsFlag has times given → times ≤ 1
 one_flag has times given (inl is) = omega (arith, is.0)

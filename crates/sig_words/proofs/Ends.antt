@@ -107,14 +107,8 @@ ends_more w word words (Some s) turn ends = record {
 
 no_word : (next : Next) (s : Said) (w : Walk) → Stands next s w → Ends w [] (step.ended next s)
 unfolding walk_fault
-no_word step.Any s w stands = subst (λ (v : Walk). Passes v [] s) (sym stands.is) record {
-  walk = refl;
-  settle = stands.faultless;
-  stopped = refl;
-  holds = stands.holds;
-}
 no_word (step.Value name) s w stands = subst (λ (v : Walk). Ends v [] None) (sym stands.is) (pending_none name stands.rows)
-no_word step.Plain s w stands = subst (λ (v : Walk). Passes v [] s) (sym stands.is) record {
+no_word _ s w stands = subst (λ (v : Walk). Passes v [] s) (sym stands.is) record {
   walk = refl;
   settle = stands.faultless;
   stopped = refl;

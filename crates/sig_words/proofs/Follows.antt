@@ -1,7 +1,7 @@
 -- The walk of `clap` follows our steps, word by word.
 use Rattle.sig_words.proofs.Common.{◌≡◌, ◌≢◌, ◌⊎◌, inl, inr, Bool, true, false, ◌||◌, List, [], ◌∷◌, ◌++◌, refl, sym, ap, ◌∙◌, cond, Option, Some, None, subst, codes, is_some, option_map, IsUtf8, bytes_eq, turn_fault, Kinds, or_else, long_of, short_of, Row, Text, Waiting, Walk, has_row, idle, option, positional, settled, used, walked, Word, is_plain, name_of, Said, OptionName, Workers, Capacity, Instants}
 use Rattle.sig_words.proofs.Steps as step
-use Rattle.sig_words.proofs.Steps.{Next, State, any_next, any_step, run, with_pace, with_plain, with_value}
+use Rattle.sig_words.proofs.Steps.{Next, State, any_next, any_step, with_pace, with_plain, with_value}
 use Rattle.sig_words.proofs.Built.{at, option_built, pace_built, pending_fault, rows_settled, rules, top}
 use Rattle.sig_words.proofs.Complete.{apart_step, joined_step, not_empty, pace_step, plain_step}
 use Rattle.sig_words.proofs.Holds.{Holds, holds_pace, holds_plain, holds_value, pace_row, value_row}
@@ -69,18 +69,15 @@ Follows w word (Some p) = (turn_fault top [] w word ≡ []) × Stands p.0 p.1 (w
 
 pending_value : (name : OptionName) (value : Word) (rows : List Row) → pending_fault (Some (name_of name, value ∷ [])) rows ≡ use_kinds (name_of name) rows
 pending_value Workers value rows = or_nil (use_kinds (name_of Workers) rows)
-pending_value Capacity value rows = or_nil (use_kinds (name_of Capacity) rows)
-pending_value Instants value rows = or_nil (use_kinds (name_of Instants) rows)
+pending_value name value rows = or_nil (use_kinds (name_of name) rows)
 
 settled_value : (name : OptionName) (value : Word) (rows : List Row) → rows_settled (Some (name_of name, value ∷ [])) rows ≡ used (option_built name) (value ∷ []) rows
 settled_value Workers value rows = refl
-settled_value Capacity value rows = refl
-settled_value Instants value rows = refl
+settled_value _ value rows = refl
 
 pub pending_none : (name : OptionName) (rows : List Row) → pending_fault (Some (name_of name, [])) rows ≢ []
 pending_none Workers rows is = cc
-pending_none Capacity rows is = cc
-pending_none Instants rows is = cc
+pending_none _ rows is = cc
 
 -- ---- a value that is given for the first time, or once more
 

@@ -1,11 +1,9 @@
 -- What follows a front in a word.
-use Rattle.sig_words.proofs.Common.{◌≡◌, ℕ, Bool, true, false, eqb, List, [], ◌∷◌, ◌++◌, refl, cond, arith, Some, None, nat_tests}
+use Rattle.sig_words.proofs.Common.{◌≡◌, ℕ, Bool, true, false, eqb, List, ◌∷◌, ◌++◌, refl, cond, arith, Some, None, nat_tests}
 use Rattle.sig_words.proofs.Steps.{after_front}
 
 -- it stands where it is found
 pub front_found : (front word rest : List ℕ) → after_front front word ≡ Some rest → word ≡ front ++ rest
-front_found [] word rest found = cc
-front_found (x ∷ xs) [] rest found = cc
 front_found (x ∷ xs) (c ∷ cs) rest found = found_at x xs c cs rest (eqb x c) refl found (front_found xs cs rest)
   where
     found_at : (x : ℕ) (xs : List ℕ) (c : ℕ) (cs rest : List ℕ) (b : Bool) → eqb x c ≡ b
@@ -14,3 +12,4 @@ front_found (x ∷ xs) (c ∷ cs) rest found = found_at x xs c cs rest (eqb x c)
         let one : x ≡ c = grind (arith, nat_tests) in
         let all = more found in cc
     found_at x xs c cs rest false same found more = cc
+front_found _ _ rest found = cc

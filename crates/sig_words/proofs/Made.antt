@@ -49,12 +49,6 @@ kept (Check program pace) s values are made = record {
   instants = (are.instants.0, refl);
   pace = rw made are.pace;
 }
-kept (Print program) s values are made = record {
-  workers = (are.workers.0, refl);
-  capacity = (are.capacity.0, refl);
-  instants = (are.instants.0, refl);
-  pace = no_flag _ _ are.pace;
-}
 kept (Tree program pace) s values are made = record {
   workers = (are.workers.0, refl);
   capacity = (are.capacity.0, refl);
@@ -70,19 +64,13 @@ kept (Code program pace) s values are made = record {
 kept (Run program flows settings) s values are made = rw made are
 kept (Play program flows events settings) s values are made = rw made are
 kept (Load seed stages settings) s values are made = rw made are
-kept (Judge program trace) s values are made = record {
-  workers = (are.workers.0, refl);
-  capacity = (are.capacity.0, refl);
-  instants = (are.instants.0, refl);
-  pace = no_flag _ _ are.pace;
-}
-kept (Build program) s values are made = record {
-  workers = (are.workers.0, refl);
-  capacity = (are.capacity.0, refl);
-  instants = (are.instants.0, refl);
-  pace = no_flag _ _ are.pace;
-}
 kept (Exec image flows settings) s values are made = rw made are
+kept _ s values are made = record {
+  workers = (are.workers.0, refl);
+  capacity = (are.capacity.0, refl);
+  instants = (are.instants.0, refl);
+  pace = no_flag _ _ are.pace;
+}
 
 -- ---- the command of a verb, plain words and settings
 
@@ -109,23 +97,13 @@ built verb.Exec words s = Exec (first words) (first (rest words)) s
 
 load_built : (words : List Word) (seed stages : ℕ) (s : Settings) → AreSeedAndStages words seed stages → Load seed stages s ≡ built verb.Load words s
 unfolding built first rest
-load_built [] seed stages s are = absurd are
-load_built (a ∷ []) seed stages s are = absurd are
 load_built (a ∷ b ∷ []) seed stages s are = rw (are.0.number.value, are.1.number.value) refl
-load_built (a ∷ b ∷ _ ∷ _) seed stages s are = absurd are
+load_built _ seed stages s are = absurd are
 
 is_built : (c : Command) (words : List Word) → HasPlainWords c words → c ≡ built (verb_of c) words (settings_of c)
 unfolding built first rest
-is_built (Check program pace) words has = rw has refl
-is_built (Print program) words has = rw has refl
-is_built (Tree program pace) words has = rw has refl
-is_built (Code program pace) words has = rw has refl
-is_built (Run program flows settings) words has = rw has refl
-is_built (Play program flows events settings) words has = rw has refl
 is_built (Load seed stages settings) words has = load_built words seed stages settings has
-is_built (Judge program trace) words has = rw has refl
-is_built (Build program) words has = rw has refl
-is_built (Exec image flows settings) words has = rw has refl
+is_built _ words has = rw has refl
 
 pub command_same : (c d : Command) (words : List Word) → verb_of c ≡ verb_of d → HasPlainWords c words → HasPlainWords d words
     → settings_of c ≡ settings_of d → c ≡ d
@@ -151,15 +129,7 @@ decoded word =
 decodes : (v : Verb) → decoded (spelling v) ≡ v
 unfolding decoded
 decodes verb.Check = refl
-decodes verb.Print = refl
-decodes verb.Tree = refl
-decodes verb.Code = refl
-decodes verb.Run = refl
-decodes verb.Play = refl
-decodes verb.Load = refl
-decodes verb.Judge = refl
-decodes verb.Build = refl
-decodes verb.Exec = refl
+decodes _ = refl
 
 pub verb_same : (v w : Verb) → spelling v ≡ spelling w → v ≡ w
 verb_same v w same = sym (decodes v) ∙ ap decoded same ∙ decodes w

@@ -1,5 +1,5 @@
 -- What holds of all words holds of the files that they name.
-use Rattle.sig_words.proofs.Common.{List, [], ◌∷◌, ◌++◌, Option, Some, None, subst, String, Global, AllByRecursion, flat_map, IsUtf8, IsUtf8-string_bytes, Word, Item, Plain, Joined, Apart, Pace, plain_in, plain_words, texts, written, written_behind, HasPlainWords, IsCommand, files_of, Command, Check, Print, Tree, Code, Run, Play, Load, Judge, Build, Exec}
+use Rattle.sig_words.proofs.Common.{List, [], ◌∷◌, ◌++◌, Option, Some, None, subst, String, Global, AllByRecursion, flat_map, IsUtf8, IsUtf8-string_bytes, Word, Item, Plain, Joined, Apart, Pace, plain_in, plain_words, texts, written, written_behind, HasPlainWords, IsCommand, files_of, Command, Load}
 
 first_all : (P : Word → Type 0) (xs ys : List Word) → AllByRecursion P (xs ++ ys) → AllByRecursion P xs
 first_all P [] ys all = tt
@@ -30,16 +30,8 @@ in_reading P items (Some words) all =
     (rest_all P (flat_map written items) (written_behind (Some words)) all).1
 
 of_plain : (P : Word → Type 0) (c : Command) (words : List Word) → HasPlainWords c words → AllByRecursion P words → AllByRecursion P (files_of c)
-of_plain P (Check program pace) words is all = subst (AllByRecursion P) is all
-of_plain P (Print program) words is all = subst (AllByRecursion P) is all
-of_plain P (Tree program pace) words is all = subst (AllByRecursion P) is all
-of_plain P (Code program pace) words is all = subst (AllByRecursion P) is all
-of_plain P (Run program flows settings) words is all = subst (AllByRecursion P) is all
-of_plain P (Play program flows events settings) words is all = subst (AllByRecursion P) is all
 of_plain P (Load seed stages settings) words is all = tt
-of_plain P (Judge program trace) words is all = subst (AllByRecursion P) is all
-of_plain P (Build program) words is all = subst (AllByRecursion P) is all
-of_plain P (Exec image flows settings) words is all = subst (AllByRecursion P) is all
+of_plain P _ words is all = subst (AllByRecursion P) is all
 
 pub of_command : (P : Word → Type 0) (words : List Word) (c : Command) → IsCommand words c → AllByRecursion P words → AllByRecursion P (files_of c)
 of_command P words c is all =

@@ -68,10 +68,9 @@ defaults_pass rows = no_fault rows plain_built (option_built Workers ∷ option_
     (no_default rows plain_built refl) (from_workers (with_default rows plain_built))
 
 deep : (a b c d : Kinds) → or_else a c ≢ [] → or_else a (or_else b (or_else c d)) ≢ []
-deep (k ∷ ks) b c d some none = some none
 deep [] (k ∷ ks) c d some none = cc
-deep [] [] (k ∷ ks) d some none = some none
 deep [] [] [] d some none = some refl
+deep _ _ _ d some none = some none
 
 -- words that our steps refuse have a fault
 pub fault_refused : (words : List Word) → AllByRecursion IsUtf8 words → run Any words nothing ≡ None → fault_of command_line words ≢ []

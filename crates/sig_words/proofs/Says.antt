@@ -34,10 +34,9 @@ option_same (Some v) None is = cc
 option_same (Some v) (Some w) is = cc
 
 pace_same : (a b : Bool) → times a ≡ times b → a ≡ b
-pace_same true true is = refl
 pace_same true false is = absurd (omega (arith, is))
 pace_same false true is = absurd (omega (arith, is))
-pace_same false false is = refl
+pace_same _ _ is = refl
 
 said_same : (s t : Said) → s.plain ≡ t.plain → said_values s ≡ said_values t → s ≡ t
 said_same s t plain values =

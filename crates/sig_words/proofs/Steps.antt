@@ -78,9 +78,8 @@ step Plain word s = Some (Plain, with_plain word s)
 
 -- at the end no option may want its value
 abbrev pub ended : Next → Said → Option Said
-ended Any s = Some s
 ended (Value option) s = None
-ended Plain s = Some s
+ended _ s = Some s
 
 -- what the words say from such a state on
 unfoldable pub run : Next → List Word → Said → Option Said

@@ -1,5 +1,5 @@
 -- One turn of the walk of `clap`: what comes of a word, and where the walk stands behind it.
-use Rattle.sig_words.proofs.Common.{◌≡◌, ◌≢◌, Bool, true, false, List, [], ◌∷◌, refl, sym, ap, ◌∙◌, Option, Some, None, codes, bytes_eq, other_fault, repeat_fault, step_fault, turn_fault, Kinds, or_else, long_of, short_of, Held, Row, Step, Text, Waiting, after_step, idle, option, positional, subcommand_or_other, used, walked, TooManyValues, UnknownArgument, Word, name_of, OptionName, Workers, Capacity, Instants}
+use Rattle.sig_words.proofs.Common.{◌≡◌, ◌≢◌, Bool, true, false, List, [], ◌∷◌, refl, sym, ap, ◌∙◌, Option, Some, None, codes, bytes_eq, other_fault, repeat_fault, step_fault, turn_fault, Kinds, or_else, long_of, short_of, Held, Row, Step, Text, Waiting, after_step, idle, option, positional, subcommand_or_other, used, walked, TooManyValues, UnknownArgument, Word, name_of, OptionName, Workers}
 use Rattle.sig_words.proofs.Common.{and-false}
 use Rattle.sig_words.proofs.Built.{at, held, option_built, pace_built, pending_fault, rows_settled, rules, top}
 use Rattle.sig_words.proofs.Sound.{option_word}
@@ -19,16 +19,14 @@ open_fault : (waiting : Waiting) (pending : Option (Text × List Text)) (rows : 
     → turn_fault top [] (at false waiting pending rows) word
     ≡ or_else (other_fault top None word (held pending rows)) (step_fault top 1 (met waiting word (held pending rows)).0 (met waiting word (held pending rows)).1)
 open_fault idle pending rows word = refl
-open_fault (option id) pending rows word = refl
-open_fault positional pending rows word = refl
+open_fault _ pending rows word = refl
 
 open_walk : (waiting : Waiting) (pending : Option (Text × List Text)) (rows : List Row) (word : Word)
     → walked rules [] (at false waiting pending rows) word
     ≡ after_step rules word (at false waiting pending rows) (met waiting word (held pending rows)).0 (met waiting word (held pending rows)).1
 unfolding walked
 open_walk idle pending rows word = refl
-open_walk (option id) pending rows word = refl
-open_walk positional pending rows word = refl
+open_walk _ pending rows word = refl
 
 -- behind `--` each word is plain
 pub behind_fault : (waiting : Waiting) (pending : Option (Text × List Text)) (rows : List Row) (word : Word)
@@ -61,16 +59,14 @@ pub value_fault : (name : OptionName) (rows : List Row) (word : Word)
     → bytes_eq word (codes "--") ≡ false → long_of word ≡ None → short_of word ≡ None
     → turn_fault top [] (at false (option (name_of name)) (Some (name_of name, [])) rows) word ≡ []
 value_fault Workers rows word unlike long short = rw (unlike, long, short) refl
-value_fault Capacity rows word unlike long short = rw (unlike, long, short) refl
-value_fault Instants rows word unlike long short = rw (unlike, long, short) refl
+value_fault _ rows word unlike long short = rw (unlike, long, short) refl
 
 pub value_walk : (name : OptionName) (rows : List Row) (word : Word)
     → bytes_eq word (codes "--") ≡ false → long_of word ≡ None → short_of word ≡ None
     → walked rules [] (at false (option (name_of name)) (Some (name_of name, [])) rows) word ≡ at false idle (Some (name_of name, word ∷ [])) rows
 unfolding walked
 value_walk Workers rows word unlike long short = rw (unlike, long, short) refl
-value_walk Capacity rows word unlike long short = rw (unlike, long, short) refl
-value_walk Instants rows word unlike long short = rw (unlike, long, short) refl
+value_walk _ rows word unlike long short = rw (unlike, long, short) refl
 
 -- `--`
 pub closing_fault : (waiting : Waiting) (pending : Option (Text × List Text)) (rows : List Row)
@@ -89,15 +85,13 @@ or_nil (x ∷ xs) = refl
 pub apart_fault : (name : OptionName) (waiting : Waiting) (pending : Option (Text × List Text)) (rows : List Row)
     → turn_fault top [] (at false waiting pending rows) (option_word name None) ≡ pending_fault pending rows
 apart_fault Workers waiting pending rows = open_fault waiting pending rows (option_word Workers None) ∙ or_nil (pending_fault pending rows)
-apart_fault Capacity waiting pending rows = open_fault waiting pending rows (option_word Capacity None) ∙ or_nil (pending_fault pending rows)
-apart_fault Instants waiting pending rows = open_fault waiting pending rows (option_word Instants None) ∙ or_nil (pending_fault pending rows)
+apart_fault name waiting pending rows = open_fault waiting pending rows (option_word name None) ∙ or_nil (pending_fault pending rows)
 
 pub apart_walk : (name : OptionName) (waiting : Waiting) (pending : Option (Text × List Text)) (rows : List Row)
     → walked rules [] (at false waiting pending rows) (option_word name None)
     ≡ at false (option (name_of name)) (Some (name_of name, [])) (rows_settled pending rows)
 apart_walk Workers waiting pending rows = open_walk waiting pending rows (option_word Workers None)
-apart_walk Capacity waiting pending rows = open_walk waiting pending rows (option_word Capacity None)
-apart_walk Instants waiting pending rows = open_walk waiting pending rows (option_word Instants None)
+apart_walk name waiting pending rows = open_walk waiting pending rows (option_word name None)
 
 -- an option with its value in the word
 abbrev pub use_kinds : Text → List Row → Kinds
@@ -109,19 +103,15 @@ pub joined_fault : (name : OptionName) (value : Word) (waiting : Waiting) (pendi
 joined_fault Workers value waiting pending rows =
     open_fault waiting pending rows (option_word Workers (Some value)) ∙ or_nil _
     ∙ ap (or_else (pending_fault pending rows)) (or_nil (use_kinds (name_of Workers) (rows_settled pending rows)))
-joined_fault Capacity value waiting pending rows =
-    open_fault waiting pending rows (option_word Capacity (Some value)) ∙ or_nil _
-    ∙ ap (or_else (pending_fault pending rows)) (or_nil (use_kinds (name_of Capacity) (rows_settled pending rows)))
-joined_fault Instants value waiting pending rows =
-    open_fault waiting pending rows (option_word Instants (Some value)) ∙ or_nil _
-    ∙ ap (or_else (pending_fault pending rows)) (or_nil (use_kinds (name_of Instants) (rows_settled pending rows)))
+joined_fault name value waiting pending rows =
+    open_fault waiting pending rows (option_word name (Some value)) ∙ or_nil _
+    ∙ ap (or_else (pending_fault pending rows)) (or_nil (use_kinds (name_of name) (rows_settled pending rows)))
 
 pub joined_walk : (name : OptionName) (value : Word) (waiting : Waiting) (pending : Option (Text × List Text)) (rows : List Row)
     → walked rules [] (at false waiting pending rows) (option_word name (Some value))
     ≡ at false idle None (used (option_built name) (value ∷ []) (rows_settled pending rows))
 joined_walk Workers value waiting pending rows = open_walk waiting pending rows (option_word Workers (Some value))
-joined_walk Capacity value waiting pending rows = open_walk waiting pending rows (option_word Capacity (Some value))
-joined_walk Instants value waiting pending rows = open_walk waiting pending rows (option_word Instants (Some value))
+joined_walk name value waiting pending rows = open_walk waiting pending rows (option_word name (Some value))
 
 -- the flag, and the flag with a value
 pub flag_fault : (waiting : Waiting) (pending : Option (Text × List Text)) (rows : List Row)

@@ -80,15 +80,13 @@ defaults_with pace = record {
 -- the settings of a command; one that holds none has the defaults
 abbrev pub settings_of : Command → Settings
 settings_of (Check program pace) = defaults_with pace
-settings_of (Print program) = defaults_with false
 settings_of (Tree program pace) = defaults_with pace
 settings_of (Code program pace) = defaults_with pace
 settings_of (Run program flows settings) = settings
 settings_of (Play program flows events settings) = settings
 settings_of (Load seed stages settings) = settings
-settings_of (Judge program trace) = defaults_with false
-settings_of (Build program) = defaults_with false
 settings_of (Exec image flows settings) = settings
+settings_of _ = defaults_with false
 
 -- the greatest seed
 abbrev pub seed_max : ℕ
@@ -96,10 +94,8 @@ seed_max = 18446744073709551615
 
 -- two words are numbers: a seed, and stages from 1 to 12
 abbrev pub AreSeedAndStages : List Word → ℕ → ℕ → Type 0
-AreSeedAndStages [] seed stages = ⊥
-AreSeedAndStages (a ∷ []) seed stages = ⊥
 AreSeedAndStages (a ∷ b ∷ []) seed stages = IsNumberWithin 0 seed_max a seed × IsNumberWithin 1 12 b stages
-AreSeedAndStages (a ∷ b ∷ _ ∷ _) seed stages = ⊥
+AreSeedAndStages _ seed stages = ⊥
 
 -- the plain words are the command's, and as many
 abbrev pub HasPlainWords : Command → List Word → Type 0

@@ -40,9 +40,7 @@ is_plain (c ∷ cs) = not (c == 45) || (length cs == 0)
 -- a plain word among the items is one of these
 abbrev pub IsGood : Item → Type 0
 IsGood (Plain word) = is_plain word ≡ true
-IsGood (Joined option value) = ⊤
-IsGood (Apart option value) = ⊤
-IsGood Pace = ⊤
+IsGood _ = ⊤
 
 -- items, and then, where there is a `--`, the words behind it, which are all plain
 pub record Reading : Type 0 where
@@ -61,9 +59,7 @@ pub record IsReading (words : List Word) (r : Reading) : Type 0 where
 -- the plain words
 abbrev pub plain_in : Item → List Word
 plain_in (Plain word) = word ∷ []
-plain_in (Joined option value) = []
-plain_in (Apart option value) = []
-plain_in Pace = []
+plain_in _ = []
 
 abbrev pub plain_words : Reading → List Word
 plain_words r = flat_map plain_in r.items ++ unwrap_or r.behind []

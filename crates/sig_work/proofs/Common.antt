@@ -31,7 +31,7 @@ pub use Rattle.sig_step.specs.declared.answer.Acted.{Acted}
 pub use Rattle.sig_step.specs.declared.answer.Acted.TheVariants.{Done, Empty}
 pub use Rattle.sig_step.specs.declared.state.ClusterState.{ClusterState}
 pub use Rattle.sig_step.proofs.Common.{Acts, ActsOn, Asked, DoesSteps, IsSameActor, IsStateOf, Past, PastGoesOn, Queues, TookPrefix, actor_of, err_from_is_err_and, get_set_other, instant_of, length-map, place_of, same_Some, slice_get_read, to_z-of_z}
-pub use Rattle.sig_work.specs.Ends.{AreSameEnds, AreSameEnds-itself, HasEnds, HasFoundEmpty, HasFoundFull, HasNoEnds, HasPutAt, HaveHandedOver, has_put, has_take, past_of, puts_of, sent_by, sent_of, taken_by, taken_of, takes_of}
+pub use Rattle.sig_work.specs.Ends.{AreSameEnds, AreSameEnds-itself, HasEnds, HasFoundEmpty, HasFoundFull, HasNoEnds, HasPutAt, HaveHandedOver, ends_in, has_end, past_of, puts_of, sent_by, sent_of, taken_by, taken_of, takes_of}
 pub use Rattle.sig_work.specs.Gathered.{AreAll, AreDealt, AreDone, AreLinked, AreTogether, BeginsTheRun, HoldFinished, IsEndOfRun, IsFresh, IsShareOf}
 pub use Rattle.sig_work.specs.Members.{EndsWith, HasActedAs, HasDone, IsBehindSeen, IsMember, IsSameMember, before_stop, commits_of, failure_in, is_collector, own_of, run_of, word_of}
 pub use Rattle.sig_work.specs.Running.{AreBegun, AreBegunInSome, AreKept, IsOfClusters, IsOfSomeClusters, IsOneOf, IsServedAs, IsUnfaulted, WereHalted, WereRun}

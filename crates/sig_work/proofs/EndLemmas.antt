@@ -1,5 +1,5 @@
 -- The ends of an actor, with one of them changed.
-use Rattle.sig_work.proofs.Common.{◌≡◌, ◌<◌, ◌≤◌, ◌+◌, ◌++◌, inl, inr, ℕ, zero, suc, ℤ, Bool, true, false, cond, List, [], ◌∷◌, length, get_or, set, Result, Ok, Err, refl, ap, sym, subst, ◌∙◌, arith, Contains, IfNone, IfSome, None, OnErr, OnOk, Option, Some, slice_get, filter, range_with_len, length-set, put_capacity, put_link, sent, FoundEmpty, FoundFull, take_link, taken, Inlet, Outlet, Full, PastGoesOn, asked_to_pop, asked_to_push, AreSameEnds, HasFoundEmpty, HasFoundFull, HasPutAt, HaveHandedOver, has_put, has_take, past_of, puts_of, sent_by, sent_of, taken_by, taken_of, takes_of, LinkEnds, get_set_other, set_here, in_filter, contains_cons, contains_head, contains_later, contains_none, slice_get-get_or, slice_get_within, cases_eq}
+use Rattle.sig_work.proofs.Common.{◌≡◌, ◌<◌, ◌≤◌, ◌+◌, ◌++◌, inl, inr, ℕ, zero, suc, ℤ, Bool, true, false, cond, List, [], ◌∷◌, length, get_or, set, Result, Ok, Err, refl, ap, sym, subst, ◌∙◌, arith, Contains, IfNone, IfSome, None, OnErr, OnOk, Option, Some, slice_get, filter, range_with_len, length-set, put_capacity, put_link, sent, FoundEmpty, FoundFull, take_link, taken, Inlet, Outlet, Full, PastGoesOn, asked_to_pop, asked_to_push, AreSameEnds, HasFoundEmpty, HasFoundFull, HasPutAt, HaveHandedOver, ends_in, has_end, past_of, puts_of, sent_by, sent_of, taken_by, taken_of, takes_of, LinkEnds, get_set_other, set_here, in_filter, contains_cons, contains_head, contains_later, contains_none, slice_get-get_or, slice_get_within, cases_eq}
 
 -- what a filter keeps
 of_filter : {A : Type 0} (p : A → Bool) (xs : List A) (x : A) → Contains (filter p xs) x → p x ≡ true
@@ -26,96 +26,58 @@ filter_alike p q m n same alike = filter_same p q (range_with_len 0 m) alike ∙
 
 -- ---- ends that are there
 
-some_put : (o : Option (Option Inlet)) → has_put o ≡ true → (put : Inlet) × (o ≡ Some (Some put))
-some_put None is = absurd (let e : false ≡ true = is in cc)
-some_put (Some None) is = absurd (let e : false ≡ true = is in cc)
-some_put (Some (Some put)) is = (put, refl)
+some_end : {A : Type 0} (o : Option (Option A)) → has_end o ≡ true → (end : A) × (o ≡ Some (Some end))
+some_end {A} None is = absurd (let e : false ≡ true = is in cc)
+some_end {A} (Some None) is = absurd (let e : false ≡ true = is in cc)
+some_end {A} (Some (Some end)) is = (end, refl)
 
-some_take : (o : Option (Option Outlet)) → has_take o ≡ true → (take : Outlet) × (o ≡ Some (Some take))
-some_take None is = absurd (let e : false ≡ true = is in cc)
-some_take (Some None) is = absurd (let e : false ≡ true = is in cc)
-some_take (Some (Some take)) is = (take, refl)
+end_there : {A : Type 0} (ends : List (Option A)) (link : ℕ) → Contains (ends_in ends) link → (end : A) × (slice_get ends link ≡ Some (Some end))
+end_there {A} ends link there = some_end (slice_get ends link) (of_filter (λ j. has_end (slice_get ends j)) (range_with_len 0 (length ends)) link there)
+
+there_end : {A : Type 0} (ends : List (Option A)) (link : ℕ) (end : A) → slice_get ends link ≡ Some (Some end) → Contains (ends_in ends) link
+there_end {A} ends link end is =
+    in_filter (λ j. has_end (slice_get ends j)) (range_with_len 0 (length ends)) link (in_range 0 (length ends) link (omega arith) (let lt = slice_get_within ends link (Some end) is in omega (arith, lt))) (ap has_end is)
 
 pub put_there : (ends : LinkEnds) (link : ℕ) → Contains (puts_of ends) link → (put : Inlet) × (slice_get ends.puts.items link ≡ Some (Some put))
-put_there ends link there = some_put (slice_get ends.puts.items link) (of_filter (λ j. has_put (slice_get ends.puts.items j)) (range_with_len 0 (length ends.puts.items)) link there)
+put_there ends link there = end_there ends.puts.items link there
 
 pub take_there : (ends : LinkEnds) (link : ℕ) → Contains (takes_of ends) link → (take : Outlet) × (slice_get ends.takes.items link ≡ Some (Some take))
-take_there ends link there = some_take (slice_get ends.takes.items link) (of_filter (λ j. has_take (slice_get ends.takes.items j)) (range_with_len 0 (length ends.takes.items)) link there)
+take_there ends link there = end_there ends.takes.items link there
 
 pub there_put : (ends : LinkEnds) (link : ℕ) (put : Inlet) → slice_get ends.puts.items link ≡ Some (Some put) → Contains (puts_of ends) link
-there_put ends link put is =
-    in_filter (λ j. has_put (slice_get ends.puts.items j)) (range_with_len 0 (length ends.puts.items)) link (in_range 0 (length ends.puts.items) link (omega arith) (let lt = slice_get_within ends.puts.items link (Some put) is in omega (arith, lt))) (ap has_put is)
+there_put ends link put is = there_end ends.puts.items link put is
 
 pub there_take : (ends : LinkEnds) (link : ℕ) (take : Outlet) → slice_get ends.takes.items link ≡ Some (Some take) → Contains (takes_of ends) link
-there_take ends link take is =
-    in_filter (λ j. has_take (slice_get ends.takes.items j)) (range_with_len 0 (length ends.takes.items)) link (in_range 0 (length ends.takes.items) link (omega arith) (let lt = slice_get_within ends.takes.items link (Some take) is in omega (arith, lt))) (ap has_take is)
+there_take ends link take is = there_end ends.takes.items link take is
 
 -- ---- one end changed
 
-module _ (puts : List (Option Inlet)) (link : ℕ) (old new : Inlet) (at : slice_get puts link ≡ Some (Some old)) where
-  abbrev after : List (Option Inlet)
-  after = set puts link (Some new)
+module _ {A : Type 0} (ends : List (Option A)) (link : ℕ) (old new : A) (at : slice_get ends link ≡ Some (Some old)) where
+  abbrev after : List (Option A)
+  after = set ends link (Some new)
 
   at_link : slice_get after link ≡ Some (Some new)
-  at_link = set_here puts link (Some new) (Some old) at
+  at_link = set_here ends link (Some new) (Some old) at
 
-  pub put_sent : (j : ℕ) → ((j ≡ link) → ⊥) → sent_by (slice_get after j) ≡ sent_by (slice_get puts j)
-  put_sent j apart = ap sent_by (get_set_other puts link j (Some new) apart)
+  -- what is told of the others stays
+  other_end : {B : Type 0} (f : Option (Option A) → B) (j : ℕ) → ((j ≡ link) → ⊥) → f (slice_get after j) ≡ f (slice_get ends j)
+  other_end {B} f j apart = ap f (get_set_other ends link j (Some new) apart)
 
-  pub put_sends : sent_by (slice_get after link) ≡ sent new
-  put_sends = ap sent_by at_link
-
-  pub put_had : sent_by (slice_get puts link) ≡ sent old
-  put_had = ap sent_by at
-
-  pub puts_stay : filter (λ j. has_put (slice_get after j)) (range_with_len 0 (length after)) ≡ filter (λ j. has_put (slice_get puts j)) (range_with_len 0 (length puts))
-  puts_stay = filter_alike (λ j. has_put (slice_get after j)) (λ j. has_put (slice_get puts j)) (length after) (length puts) (length-set puts link (Some new))
+  ends_stay : ends_in after ≡ ends_in ends
+  ends_stay = filter_alike (λ j. has_end (slice_get after j)) (λ j. has_end (slice_get ends j)) (length after) (length ends) (length-set ends link (Some new))
       (λ j. elim (cases_eq j link) [
-        | inl same ↦ ap (λ i. has_put (slice_get after i)) same ∙ ap has_put at_link ∙ sym (ap has_put at) ∙ ap (λ i. has_put (slice_get puts i)) (sym same)
-        | inr apart ↦ ap has_put (get_set_other puts link j (Some new) apart)
+        | inl same ↦ ap (λ i. has_end (slice_get after i)) same ∙ ap has_end at_link ∙ sym (ap has_end at) ∙ ap (λ i. has_end (slice_get ends i)) (sym same)
+        | inr apart ↦ other_end has_end j apart
       ])
 
-  pub put_same : put_link new ≡ put_link old → put_capacity new ≡ put_capacity old → (j : ℕ) (before : Inlet) → slice_get puts j ≡ Some (Some before)
-      → (p : Inlet) × (slice_get after j ≡ Some (Some p)) × (put_link p ≡ put_link before) × (put_capacity p ≡ put_capacity before)
-  put_same same_link same_capacity j before is = elim (cases_eq j link) [
+  same_end : (Same : A → A → Type 0) → Same new old → ((end : A) → Same end end) → (j : ℕ) (before : A) → slice_get ends j ≡ Some (Some before)
+      → (end : A) × (slice_get after j ≡ Some (Some end)) × Same end before
+  same_end Same alike itself j before is = elim (cases_eq j link) [
     | inl same ↦
-        let e : Some (Some old) ≡ Some (Some before) = sym at ∙ ap (slice_get puts) (sym same) ∙ is in
+        let e : Some (Some old) ≡ Some (Some before) = sym at ∙ ap (slice_get ends) (sym same) ∙ is in
         let one : old ≡ before = cc in
-        (new, ap (slice_get after) same ∙ at_link, same_link ∙ ap put_link one, same_capacity ∙ ap put_capacity one)
-    | inr apart ↦ (before, get_set_other puts link j (Some new) apart ∙ is, refl, refl)
-  ]
-
-module _ (takes : List (Option Outlet)) (link : ℕ) (old new : Outlet) (at : slice_get takes link ≡ Some (Some old)) where
-  abbrev after_take : List (Option Outlet)
-  after_take = set takes link (Some new)
-
-  at_take : slice_get after_take link ≡ Some (Some new)
-  at_take = set_here takes link (Some new) (Some old) at
-
-  pub take_stays : (j : ℕ) → ((j ≡ link) → ⊥) → taken_by (slice_get after_take j) ≡ taken_by (slice_get takes j)
-  take_stays j apart = ap taken_by (get_set_other takes link j (Some new) apart)
-
-  pub take_takes : taken_by (slice_get after_take link) ≡ taken new
-  take_takes = ap taken_by at_take
-
-  pub take_had : taken_by (slice_get takes link) ≡ taken old
-  take_had = ap taken_by at
-
-  pub takes_stay : filter (λ j. has_take (slice_get after_take j)) (range_with_len 0 (length after_take)) ≡ filter (λ j. has_take (slice_get takes j)) (range_with_len 0 (length takes))
-  takes_stay = filter_alike (λ j. has_take (slice_get after_take j)) (λ j. has_take (slice_get takes j)) (length after_take) (length takes) (length-set takes link (Some new))
-      (λ j. elim (cases_eq j link) [
-        | inl same ↦ ap (λ i. has_take (slice_get after_take i)) same ∙ ap has_take at_take ∙ sym (ap has_take at) ∙ ap (λ i. has_take (slice_get takes i)) (sym same)
-        | inr apart ↦ ap has_take (get_set_other takes link j (Some new) apart)
-      ])
-
-  pub take_same : take_link new ≡ take_link old → (j : ℕ) (before : Outlet) → slice_get takes j ≡ Some (Some before)
-      → (p : Outlet) × (slice_get after_take j ≡ Some (Some p)) × (take_link p ≡ take_link before)
-  take_same same_link j before is = elim (cases_eq j link) [
-    | inl same ↦
-        let e : Some (Some old) ≡ Some (Some before) = sym at ∙ ap (slice_get takes) (sym same) ∙ is in
-        let one : old ≡ before = cc in
-        (new, ap (slice_get after_take) same ∙ at_take, same_link ∙ ap take_link one)
-    | inr apart ↦ (before, get_set_other takes link j (Some new) apart ∙ is, refl)
+        (new, ap (slice_get after) same ∙ at_link, subst (Same new) one alike)
+    | inr apart ↦ (before, get_set_other ends link j (Some new) apart ∙ is, itself before)
   ]
 
 -- ---- what a call leaves of the past
@@ -127,32 +89,28 @@ pub put_at_is : (ends : LinkEnds) (link : ℕ) (o : Option Inlet) (put : Inlet) 
 put_at_is ends link o put found value is = place_is ends.puts.items link o (Some put) (slice_get_within ends.puts.items link (Some found.0) found.1) value is
 
 pub put_is : (ends : LinkEnds) (link : ℕ) (o : Option Inlet) (put : Inlet) → Contains (puts_of ends) link → o ≡ get_or ends.puts.items link o → o ≡ Some put → slice_get ends.puts.items link ≡ Some (Some put)
-put_is ends link o put there value is =
-    let found = put_there ends link there in
-    place_is ends.puts.items link o (Some put) (slice_get_within ends.puts.items link (Some found.0) found.1) value is
+put_is ends link o put there value is = put_at_is ends link o put (put_there ends link there) value is
 
 pub take_is : (ends : LinkEnds) (link : ℕ) (o : Option Outlet) (take : Outlet) → Contains (takes_of ends) link → o ≡ get_or ends.takes.items link o → o ≡ Some take → slice_get ends.takes.items link ≡ Some (Some take)
 take_is ends link o take there value is =
     let found = take_there ends link there in
     place_is ends.takes.items link o (Some take) (slice_get_within ends.takes.items link (Some found.0) found.1) value is
 
-pub put_there_never_none : (ends : LinkEnds) (link : ℕ) (o : Option Inlet) → HasPutAt ends link → o ≡ get_or ends.puts.items link o → o ≡ None → ⊥
-put_there_never_none ends link o found value none =
-    let e : Some (Some found.0) ≡ Some o = sym found.1 ∙ place_is ends.puts.items link o o (slice_get_within ends.puts.items link (Some found.0) found.1) value refl in
+never_none : {A : Type 0} (ends : List (Option A)) (link : ℕ) (o : Option A) → ((end : A) × (slice_get ends link ≡ Some (Some end))) → o ≡ get_or ends link o → o ≡ None → ⊥
+never_none {A} ends link o found value none =
+    let e : Some (Some found.0) ≡ Some o = sym found.1 ∙ place_is ends link o o (slice_get_within ends link (Some found.0) found.1) value refl in
     let f : Some found.0 ≡ o = cc in
     let g : Some found.0 ≡ None = f ∙ none in
     cc
+
+pub put_there_never_none : (ends : LinkEnds) (link : ℕ) (o : Option Inlet) → HasPutAt ends link → o ≡ get_or ends.puts.items link o → o ≡ None → ⊥
+put_there_never_none ends link o found value none = never_none ends.puts.items link o found value none
 
 pub put_never_none : (ends : LinkEnds) (link : ℕ) (o : Option Inlet) → Contains (puts_of ends) link → o ≡ get_or ends.puts.items link o → o ≡ None → ⊥
 put_never_none ends link o there value none = put_there_never_none ends link o (put_there ends link there) value none
 
 pub take_never_none : (ends : LinkEnds) (link : ℕ) (o : Option Outlet) → Contains (takes_of ends) link → o ≡ get_or ends.takes.items link o → o ≡ None → ⊥
-take_never_none ends link o there value none =
-    let found = take_there ends link there in
-    let e : Some (Some found.0) ≡ Some o = sym found.1 ∙ place_is ends.takes.items link o o (slice_get_within ends.takes.items link (Some found.0) found.1) value refl in
-    let f : Some found.0 ≡ o = cc in
-    let g : Some found.0 ≡ None = f ∙ none in
-    cc
+take_never_none ends link o there value none = never_none ends.takes.items link o (take_there ends link there) value none
 
 module _ (ends later : LinkEnds) (link : ℕ) (old new : Inlet) (at : slice_get ends.puts.items link ≡ Some (Some old)) (puts_are : later.puts.items ≡ set ends.puts.items link (Some new)) (takes_are : later.takes ≡ ends.takes) where
   sent_at : (j : ℕ) → sent_of later j ≡ sent_by (slice_get (set ends.puts.items link (Some new)) j)
@@ -165,17 +123,17 @@ module _ (ends later : LinkEnds) (link : ℕ) (old new : Inlet) (at : slice_get 
   past_at j xs is = λ t. record { sent = is t; taken = taken_at j t }
 
   other_stays : (j : ℕ) → ((j ≡ link) → ⊥) → past_of later j ≡ past_of ends j
-  other_stays j apart = past_at j (sent_of ends j) (sent_at j ∙ put_sent ends.puts.items link old new at j apart)
+  other_stays j apart = past_at j (sent_of ends j) (sent_at j ∙ other_end ends.puts.items link old new at sent_by j apart)
 
   past_stays : sent new ≡ sent old → (j : ℕ) → past_of later j ≡ past_of ends j
   past_stays same j = elim (cases_eq j link) [
-    | inl is ↦ subst (λ i. past_of later i ≡ past_of ends i) (sym is) (past_at link (sent_of ends link) (sent_at link ∙ put_sends ends.puts.items link old new at ∙ same ∙ sym (put_had ends.puts.items link old new at)))
+    | inl is ↦ subst (λ i. past_of later i ≡ past_of ends i) (sym is) (past_at link (sent_of ends link) (sent_at link ∙ ap sent_by (at_link ends.puts.items link old new at) ∙ same ∙ sym (ap sent_by at)))
     | inr apart ↦ other_stays j apart
   ]
 
   pub asked_push : {U : Type 0} (item : ℤ) (result : Result U Full) → OnOk result (sent new ≡ sent old ++ item ∷ []) → OnErr result (sent new ≡ sent old) → PastGoesOn (asked_to_push link item result) (past_of ends) (past_of later)
   asked_push {U} item (Ok done) more same = (
-    past_at link (sent_of ends link ++ item ∷ []) (sent_at link ∙ put_sends ends.puts.items link old new at ∙ more ∙ ap (λ (xs : List ℤ). xs ++ item ∷ []) (sym (put_had ends.puts.items link old new at))),
+    past_at link (sent_of ends link ++ item ∷ []) (sent_at link ∙ ap sent_by (at_link ends.puts.items link old new at) ∙ more ∙ ap (λ (xs : List ℤ). xs ++ item ∷ []) (sym (ap sent_by at))),
     λ j apart. other_stays j apart,
   )
   asked_push {U} item (Err full) more same = past_stays same
@@ -185,8 +143,8 @@ module _ (ends later : LinkEnds) (link : ℕ) (old new : Inlet) (at : slice_get 
     puts = ap (λ (xs : List (Option Inlet)). length xs) puts_are ∙ length-set ends.puts.items link (Some new);
     takes = ap (λ ts. length ts.items) takes_are;
     put = λ j before is.
-        let p = put_same ends.puts.items link old new at same_link same_capacity j before is in
-        (p.0, ap (λ (xs : List (Option Inlet)). slice_get xs j) puts_are ∙ p.1, p.2, p.3);
+        let p = same_end ends.puts.items link old new at (λ (a b : Inlet). (put_link a ≡ put_link b) × (put_capacity a ≡ put_capacity b)) (same_link, same_capacity) (λ end. (refl, refl)) j before is in
+        (p.0, ap (λ (xs : List (Option Inlet)). slice_get xs j) puts_are ∙ p.1, p.2.0, p.2.1);
     take = λ j before is. (before, ap (λ ts. slice_get ts.items j) takes_are ∙ is, refl);
   }
 
@@ -198,7 +156,7 @@ module _ (ends later : LinkEnds) (link : ℕ) (old new : Inlet) (at : slice_get 
   }
 
   pub pushed_puts : puts_of later ≡ puts_of ends
-  pushed_puts = ap (λ (xs : List (Option Inlet)). filter (λ j. has_put (slice_get xs j)) (range_with_len 0 (length xs))) puts_are ∙ puts_stay ends.puts.items link old new at
+  pushed_puts = ap (λ (xs : List (Option Inlet)). ends_in xs) puts_are ∙ ends_stay ends.puts.items link old new at
 
 module _ (ends later : LinkEnds) (link : ℕ) (old new : Outlet) (at : slice_get ends.takes.items link ≡ Some (Some old)) (takes_are : later.takes.items ≡ set ends.takes.items link (Some new)) (puts_are : later.puts ≡ ends.puts) where
   taken_there : (j : ℕ) → taken_of later j ≡ taken_by (slice_get (set ends.takes.items link (Some new)) j)
@@ -211,15 +169,15 @@ module _ (ends later : LinkEnds) (link : ℕ) (old new : Outlet) (at : slice_get
   past_there j xs is = λ t. record { sent = sent_there j t; taken = is t }
 
   other_there : (j : ℕ) → ((j ≡ link) → ⊥) → past_of later j ≡ past_of ends j
-  other_there j apart = past_there j (taken_of ends j) (taken_there j ∙ take_stays ends.takes.items link old new at j apart)
+  other_there j apart = past_there j (taken_of ends j) (taken_there j ∙ other_end ends.takes.items link old new at taken_by j apart)
 
   pub asked_pop : (o : Option ℤ) → IfSome o (λ x. taken new ≡ taken old ++ x ∷ []) → IfNone o (taken new ≡ taken old) → PastGoesOn (asked_to_pop link o) (past_of ends) (past_of later)
   asked_pop (Some x) more same = (
-    past_there link (taken_of ends link ++ x ∷ []) (taken_there link ∙ take_takes ends.takes.items link old new at ∙ more ∙ ap (λ (xs : List ℤ). xs ++ x ∷ []) (sym (take_had ends.takes.items link old new at))),
+    past_there link (taken_of ends link ++ x ∷ []) (taken_there link ∙ ap taken_by (at_link ends.takes.items link old new at) ∙ more ∙ ap (λ (xs : List ℤ). xs ++ x ∷ []) (sym (ap taken_by at))),
     λ j apart. other_there j apart,
   )
   asked_pop None more same = λ j. elim (cases_eq j link) [
-    | inl is ↦ subst (λ i. past_of later i ≡ past_of ends i) (sym is) (past_there link (taken_of ends link) (taken_there link ∙ take_takes ends.takes.items link old new at ∙ same ∙ sym (take_had ends.takes.items link old new at)))
+    | inl is ↦ subst (λ i. past_of later i ≡ past_of ends i) (sym is) (past_there link (taken_of ends link) (taken_there link ∙ ap taken_by (at_link ends.takes.items link old new at) ∙ same ∙ sym (ap taken_by at)))
     | inr apart ↦ other_there j apart
   ]
 
@@ -229,12 +187,12 @@ module _ (ends later : LinkEnds) (link : ℕ) (old new : Outlet) (at : slice_get
     takes = ap (λ (xs : List (Option Outlet)). length xs) takes_are ∙ length-set ends.takes.items link (Some new);
     put = λ j before is. (before, ap (λ ps. slice_get ps.items j) puts_are ∙ is, refl, refl);
     take = λ j before is.
-        let p = take_same ends.takes.items link old new at same_link j before is in
+        let p = same_end ends.takes.items link old new at (λ (a b : Outlet). take_link a ≡ take_link b) same_link (λ end. refl) j before is in
         (p.0, ap (λ (xs : List (Option Outlet)). slice_get xs j) takes_are ∙ p.1, p.2);
   }
 
   pub popped_takes : takes_of later ≡ takes_of ends
-  popped_takes = ap (λ (xs : List (Option Outlet)). filter (λ j. has_take (slice_get xs j)) (range_with_len 0 (length xs))) takes_are ∙ takes_stay ends.takes.items link old new at
+  popped_takes = ap (λ (xs : List (Option Outlet)). ends_in xs) takes_are ∙ ends_stay ends.takes.items link old new at
 
 -- ---- a link that was found full, or empty
 

@@ -1,5 +1,5 @@
 -- An actor that failed did so within the limit; and the order of places as words.
-use Rattle.sig_work.proofs.Common.{◌≡◌, ◌<◌, ◌≤◌, ◌^◌, ◌∙◌, inl, inr, ℕ, zero, suc, Bool, true, false, cond, length, refl, ap, sym, subst, arith, None, Option, Some, nat_lt, slice_get, and_from, and_parts, cases_order, eq-eqb, eqb-true, lt-ltb, ltb-false, ltb-true, or_cases, or_left, or_right, ◌==◌, ◌&&◌, packed, Place, Actor, code_of, guard_holds, moved_on, Given, is_before, Faults, Gives, Outcome, outcome, Commits, Fails, Goes, Puts, Stopped, Takes, Turn, turn, turn_at, turn_by, turn_of_op, turn_with, Step, StepKind, Do, Send, Receive, Report, Collect, Commit, Op, HasTurned, IsOwn, IsOwnStep, LeadBy, Own, opening_own, same_Some}
+use Rattle.sig_work.proofs.Common.{◌≡◌, ◌<◌, ◌≤◌, ◌^◌, ◌∙◌, inl, inr, ℕ, zero, suc, Bool, true, false, cond, length, refl, ap, sym, subst, arith, None, Option, Some, nat_lt, slice_get, and_from, and_parts, cases_order, eq-eqb, eqb-true, lt-ltb, ltb-false, ltb-true, or_cases, or_left, or_right, ◌==◌, ◌&&◌, packed, Place, Actor, code_of, guard_holds, moved_on, Given, is_before, Faults, Gives, Outcome, outcome, Fails, Goes, Stopped, Takes, Turn, turn, turn_at, turn_by, turn_of_op, turn_with, Step, StepKind, Do, Op, HasTurned, IsOwn, IsOwnStep, LeadBy, Own, opening_own, same_Some}
 use Rattle.sig_model.specs.Turns.{AtLimit}
 
 -- ---- where an actor fails
@@ -7,13 +7,8 @@ use Rattle.sig_model.specs.Turns.{AtLimit}
 module _ (given : Given) (k : ℕ) where
   -- a turn that fails does so within the limit
   abbrev FailsWithin : Turn → Type 0
-  FailsWithin Stopped = Unit {0}
-  FailsWithin AtLimit = Unit {0}
   FailsWithin (Fails place) = place.instant ≤ given.limit
-  FailsWithin (Goes next) = Unit {0}
-  FailsWithin (Commits reaction next) = Unit {0}
-  FailsWithin (Puts link item next) = Unit {0}
-  FailsWithin (Takes link next) = Unit {0}
+  FailsWithin other = Unit {0}
 
   module _ (a : Actor) (within : a.instant ≤ given.limit) where
     op_fails : (op : Op) (r : Outcome) → FailsWithin (turn_with given.plan (code_of given.plan k) a op r)
@@ -26,11 +21,7 @@ module _ (given : Given) (k : ℕ) where
 
     kind_fails : (kind : StepKind) → FailsWithin (turn_by given.plan given.flows (code_of given.plan k) a kind)
     kind_fails (Do o) = some_fails (slice_get given.plan.ops o.0)
-    kind_fails (Send j) = tt
-    kind_fails (Report j) = tt
-    kind_fails (Receive j) = tt
-    kind_fails (Collect j) = tt
-    kind_fails Commit = tt
+    kind_fails other = tt
 
     step_fails : (step : Option Step) → FailsWithin (turn_at given.plan given.flows (code_of given.plan k) a step)
     step_fails None = tt
@@ -70,10 +61,8 @@ module _ (given : Given) (k : ℕ) where
     subst (λ (q : Place). q.instant ≤ given.limit) (same_Some place p (sym turned.0.fails ∙ is)) fails,
     ap (λ (c : Actor). c.ended) turned.0.is,
   )
-  turned_failed (Goes next) a b fails failed runs turned = λ p is. none_failed a failed runs p (sym turned.0.fails ∙ is)
-  turned_failed (Commits reaction next) a b fails failed runs turned = λ p is. none_failed a failed runs p (sym turned.0.fails ∙ is)
-  turned_failed (Puts link item next) a b fails failed runs turned = λ p is. none_failed a failed runs p (sym turned.0.fails ∙ is)
   turned_failed (Takes link next) a b fails failed runs turned = λ p is. none_failed a failed runs p (sym turned.1.fails ∙ is)
+  turned_failed other a b fails failed runs turned = λ p is. none_failed a failed runs p (sym turned.0.fails ∙ is)
 
   lead_failed : (n : ℕ) (a b : Own) → FailedWithin a → LeadBy given k n a b → FailedWithin b
   lead_failed zero a b failed same = subst (λ (o : Own). FailedWithin o) same failed

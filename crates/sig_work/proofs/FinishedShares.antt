@@ -28,11 +28,8 @@ at_most_least (m ∷ ms) w within each =
     at_most_min a b c one two = omega (arith, one, two)
 
 failed_ending : (e : Option Ending) (p : Place) → failure_in e ≡ Some p → e ≡ Some (Failed p)
-failed_ending None p is = absurd (let clash : None ≡ Some p = is in cc)
 failed_ending (Some (Failed q)) p is = ap (λ r. Some (Failed r)) (same_Some q p is)
-failed_ending (Some Looked) p is = absurd (let clash : None ≡ Some p = is in cc)
-failed_ending (Some AtLimit) p is = absurd (let clash : None ≡ Some p = is in cc)
-failed_ending (Some Faulted) p is = absurd (let clash : None ≡ Some p = is in cc)
+failed_ending e p is = absurd (let clash : None ≡ Some p = is in cc)
 
 ended_is : (i j : ℕ) (c d : Cause) → i ≡ j → c ≡ d → (let e : Ended = record { instants = i; cause = c } in e) ≡ (let f : Ended = record { instants = j; cause = d } in f)
 ended_is i j c d one two =

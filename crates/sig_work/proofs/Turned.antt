@@ -13,11 +13,6 @@ acted_keeps old new runs same noted = record {
   unfaulted = λ faulted. sym noted ∙ faulted;
 }
 
--- so one that wrote lines
-pub lined_keeps : (old mid lined : Member) → lined ≡ record mid { lines = lined.lines } → KeepsMember old mid → KeepsMember old lined
-lined_keeps old mid lined lined_is keeps = subst (λ (m : Member). KeepsMember old m) (sym lined_is)
-    (record { same = record { number = keeps.same.number; ends = keeps.same.ends }; ended = keeps.ended; unfaulted = keeps.unfaulted })
-
 module _ {S : Type 0} (took : S → List ℕ → S → Type 0) (plan : PlanView) (flows : List (List ℤ)) (word : Halt) (old mid : Member) (by : HaltSeat) (runs : old.state.ended ≡ false) (noted : mid.ending ≡ old.ending) where
   -- the step left this
   abbrev pub Leaves : (Given → List Reaction → Type 0) → Type 0

@@ -1,4 +1,5 @@
 -- What stays of members and shares: from one call to the next, and where one of several goes on.
+use borrow.Author.Count.{below_more}
 use Rattle.sig_work.proofs.Common.{◌≡◌, ◌≢◌, ◌<◌, ◌≤◌, ◌+◌, ◌⊎◌, ◌∙◌, inl, inr, ℕ, true, List, length, set, refl, ap, sym, subst, arith, Some, ◌==◌, slice_get, length-set, IsSameSeat, HaltSeat, Given, same_Some, AreSameEnds, AreSameEnds-itself, IsSameMember, is_collector, HasEndedAt, HaveEndedAt, KeepsMember, KeepsSeat, KeepsShare, KeepsShares, AllEnded, AreSameShares, HasCollector, HaveCollector, HaveEnded, NoneFaulted, LinkEnds, Member, Share, slice_get_within, some_at, cases_eq, get_set_other, set_here}
 
 -- ---- one element of a list changed
@@ -202,16 +203,10 @@ have_ended_here old new number s t at items ended x there =
 
 -- one more
 pub more_ended : (old new : Share) → KeepsShare old new → (count : ℕ) → ((j : ℕ) → j < count → HasEndedAt old j) → HasEndedAt new count → (j : ℕ) → j < count + 1 → HasEndedAt new j
-more_ended old new keeps count before here j lt = elim (cases_eq j count) [
-  | inl same ↦ subst (HasEndedAt new) (sym same) here
-  | inr apart ↦ ended_stays old new keeps j (before j (omega (arith, lt, apart)))
-]
+more_ended old new keeps count before here = below_more (HasEndedAt new) count (λ j lt. ended_stays old new keeps j (before j lt)) here
 
 pub more_have_ended : (old new : List Share) → KeepsShares old new → (count : ℕ) → ((j : ℕ) → j < count → HaveEndedAt old j) → HaveEndedAt new count → (j : ℕ) → j < count + 1 → HaveEndedAt new j
-more_have_ended old new keeps count before here j lt = elim (cases_eq j count) [
-  | inl same ↦ subst (HaveEndedAt new) (sym same) here
-  | inr apart ↦ have_ended_stay old new keeps j (before j (omega (arith, lt, apart)))
-]
+more_have_ended old new keeps count before here = below_more (HaveEndedAt new) count (λ j lt. have_ended_stay old new keeps j (before j lt)) here
 
 pub all_have_ended : (share : Share) (count : ℕ) → length share.members.items ≤ count → ((j : ℕ) → j < count → HasEndedAt share j) → AllEnded share
 all_have_ended share count all ended number m there = ended number (let lt = slice_get_within share.members.items number m there in omega (arith, lt, all)) m there

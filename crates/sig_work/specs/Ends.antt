@@ -15,15 +15,14 @@ taken_by None = []
 taken_by (Some None) = []
 taken_by (Some (Some take)) = taken take
 
-abbrev pub has_put : Option (Option Inlet) → Bool
-has_put None = false
-has_put (Some None) = false
-has_put (Some (Some put)) = true
+abbrev pub has_end : {A : Type 0} → Option (Option A) → Bool
+has_end None = false
+has_end (Some None) = false
+has_end (Some (Some end)) = true
 
-abbrev pub has_take : Option (Option Outlet) → Bool
-has_take None = false
-has_take (Some None) = false
-has_take (Some (Some take)) = true
+-- the numbers of the links of which an end is there
+abbrev pub ends_in : {A : Type 0} → List (Option A) → List ℕ
+ends_in ends = filter (λ link. has_end (slice_get ends link)) (range_with_len 0 (length ends))
 
 -- by the numbers of links
 abbrev pub sent_of : LinkEnds → Items
@@ -37,10 +36,10 @@ past_of ends link = record { sent = sent_of ends link; taken = taken_of ends lin
 
 -- the links to which it can push, and those from which it can pop
 abbrev pub puts_of : LinkEnds → List ℕ
-puts_of ends = filter (λ link. has_put (slice_get ends.puts.items link)) (range_with_len 0 (length ends.puts.items))
+puts_of ends = ends_in ends.puts.items
 
 abbrev pub takes_of : LinkEnds → List ℕ
-takes_of ends = filter (λ link. has_take (slice_get ends.takes.items link)) (range_with_len 0 (length ends.takes.items))
+takes_of ends = ends_in ends.takes.items
 
 -- The end of a link was there, and found it full, or empty, at a step of the call that led from the one ends to the other.
 pub record HasFoundFull (link : ℕ) (old new : LinkEnds) : Type 0 where

@@ -1,6 +1,6 @@
 -- What one actor of a share has done.
 use Rattle.std.specs.Prelude.{◌≡◌, ◌<◌, ◌≤◌, ◌+◌, ◌==◌, ◌∷◌, ◌++◌, if◌then◌else◌}
-use Rattle.sig_work.specs.Prelude.{ℕ, ℤ, Bool, true, false, List, [], length, Option, None, Some, no_place, packed, Place, Actor, Given, Reaction, IsOwn, Own, PlanView, IsStateOf, actor_of, last_reaction, place_of, Acted, Done, Commit, Empty, Full, Failed as ActFailed, AtLimit as ActAtLimit, Stopped}
+use Rattle.sig_work.specs.Prelude.{ℕ, ℤ, Bool, true, false, List, [], length, Option, None, Some, no_place, packed, Place, Actor, Given, Reaction, IsOwn, Own, PlanView, IsStateOf, actor_of, last_reaction, place_of, Acted, Commit, Failed as ActFailed, AtLimit as ActAtLimit, Stopped}
 use Rattle.sig_work.specs.Ends.{AreSameEnds, HasEnds, sent_of, taken_of}
 use Rattle.sig_work.specs.declared.member.Ending.{Ending}
 use Rattle.sig_work.specs.declared.member.Ending.TheVariants.{Failed, Looked, AtLimit, Faulted}
@@ -90,11 +90,9 @@ IsOfSomeRun plan flows m = (capacity : ℕ) × (limit : ℕ) × (committed : Lis
 
 -- what a call of the member's step left, once an ending is noted
 abbrev pub HasActedAs : Given → List Reaction → Acted → Member → Type 0
-HasActedAs given committed Done m = HasDone given committed m
 HasActedAs given committed Commit m = HasDone given (committed ++ last_reaction given.plan.kernel m.state ∷ []) m × (is_collector given m ≡ true)
-HasActedAs given committed (Empty link) m = HasDone given committed m
-HasActedAs given committed (Full link) m = HasDone given committed m
 HasActedAs given committed (ActFailed place) m =
     HasDone given committed (record m { ending = Some (Failed place) }) × (place ≡ place_of m.state) × (place.instant ≤ given.limit)
 HasActedAs given committed ActAtLimit m = HasDone given committed (record m { ending = Some AtLimit })
 HasActedAs given committed Stopped m = HasDone given committed m × (m.state.ended ≡ true)
+HasActedAs given committed other m = HasDone given committed m

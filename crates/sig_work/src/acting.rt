@@ -7,12 +7,11 @@ ghost use Rattle.sig_work.specs.Members.{HasActedAs, HasDone, IsOfSomeRun, IsSam
 use crate::ends::Lent;
 use crate::member::Member;
 use crate::neighbours::Neighbours;
-use crate::plans::{actors_in, plans_are_accepted};
 use sig_dd::Steps;
 use sig_halt::Halt;
 use sig_kernel::Inputs;
 use sig_plan::Plan;
-use sig_step::Acted;
+use sig_step::{Acted, actors_in, plans_are_accepted};
 use sig_text::Gate;
 use std::sync::Wait;
 use std::sync::ledger::{Blank, Ledger};

@@ -5,11 +5,11 @@ ghost use Rattle.sig_work.specs.Prelude.{slice_get, IfNone, IfSome, None, Some, 
 ghost use Rattle.sig_work.specs.inner.Words.{HasActors, NamesCause};
 
 use crate::finding::member_of;
-use crate::plans::{ops_of, order_of};
 use crate::share::Share;
 use sig_base::{OpId, Place};
 use sig_kernel::Inputs;
 use sig_plan::{Cause, Plan};
+use sig_step::{ops_of, order_of};
 
 /// Why the operation at the place of a word has no value, at the actor that does it; the limit where it is
 /// the word of no place.

@@ -1,7 +1,8 @@
 //! Links on which clusters may wait for each other within an instant.
 
-use crate::plans::{actors_in, links_in};
+use crate::plans::links_in;
 use sig_plan::{LinkInfo, Plan};
+use sig_step::actors_in;
 use std::alloc::{AllocError, Global};
 
 /// Where circles of links may lie: in each, some link leads to a cluster that is not behind its writer, and such

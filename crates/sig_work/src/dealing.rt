@@ -11,13 +11,13 @@ use crate::ends::LinkEnds;
 use crate::handing::{hand_out, seated};
 use crate::joining::join_all;
 use crate::member::Member;
-use crate::plans::{actors_in, links_in, plans_are_accepted};
+use crate::plans::links_in;
 use crate::share::Share;
 use sig_flow::OutputLines;
 use sig_halt::Halt;
 use sig_kernel::Inputs;
 use sig_plan::Plan;
-use sig_step::ClusterState;
+use sig_step::{ClusterState, actors_in, plans_are_accepted};
 use sig_values::lines_for;
 use std::alloc::{AllocError, Global};
 

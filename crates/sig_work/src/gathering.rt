@@ -9,7 +9,6 @@ ghost use Rattle.sig_work.specs.inner.Words.{IsLeastWord, NamesCause};
 
 use crate::cause::cause_named;
 use crate::finding::member_of;
-use crate::plans::{actors_in, plans_are_accepted};
 use crate::settling::settle_links;
 use crate::share::Share;
 use crate::word::{close, least_failure};
@@ -17,6 +16,7 @@ use sig_halt::Halt;
 use sig_kernel::Inputs;
 use sig_plan::{Ended, Plan};
 use sig_settling_laws::{own_steps_are_an_interleaving, settled_actors_have_acted_in_order};
+use sig_step::{actors_in, plans_are_accepted};
 use std::sync::Wait;
 
 /// Settles all links, joins the seats and closes the word. The answer is the number of the instants that

@@ -10,9 +10,10 @@ use crate::answer::DealAnswer;
 use crate::circles::Circles;
 use crate::ends::LinkEnds;
 use crate::member::Member;
-use crate::plans::{links_in, plans_are_accepted};
+use crate::plans::links_in;
 use sig_chunk::{Inlet, MOST_ITEMS, Outlet, chunked};
 use sig_plan::{LinkInfo, Plan};
+use sig_step::plans_are_accepted;
 use std::alloc::Global;
 
 /// Makes all links of a plan, and gives their ends to the members that write and read them.

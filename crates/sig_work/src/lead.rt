@@ -2,9 +2,9 @@
 
 use crate::ends::LinkEnds;
 use crate::member::Member;
-use crate::plans::actors_in;
 use crate::share::Share;
 use sig_plan::Plan;
+use sig_step::actors_in;
 
 /// Where the collector stands among shares, and how many instants a cluster of them may be ahead of it.
 #[derive(Clone, Copy)]

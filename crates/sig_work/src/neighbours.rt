@@ -2,11 +2,12 @@
 
 use crate::handing::share_for;
 use crate::member::Member;
-use crate::plans::{actors_in, links_in};
+use crate::plans::links_in;
 use crate::share::Share;
 use crate::turn::MANY_GAINED;
 use sig_halt::Halt;
 use sig_plan::{LinkInfo, Plan, StepKind};
+use sig_step::actors_in;
 
 /// The actors of a plan, each of which has the bed of its share at the failure word.
 #[derive(Clone, Copy)]

@@ -1,6 +1,6 @@
 -- Steps of the actors of a core.
 use Rattle.std.specs.Prelude.{◌≡◌, ◌∷◌, ◌++◌}
-use Rattle.sig_interleaving.specs.Prelude.{ℕ, [], Bool, true, false, length, slice_get, slice_set, Option, None, Some, Core as ModelCore, stepped, turn, Event, Act, TakesTurn, Past, Queues, IsSameActor, IsStateOf, actor_of, last_reaction, limit_of, number_of, Acted, Done, Commit, Empty, Full, Failed, AtLimit, Stopped, ClusterState}
+use Rattle.sig_interleaving.specs.Prelude.{ℕ, [], Bool, true, false, length, slice_get, slice_set, Option, None, Some, Core as ModelCore, stepped, turn, Event, Act, TakesTurn, Past, Queues, IsSameActor, IsStateOf, actor_of, last_reaction, limit_of, number_of, Acted, Commit, Empty, Full, Stopped, ClusterState}
 use Rattle.sig_interleaving.specs.Cores.{Shows, given_of}
 use Rattle.sig_interleaving.specs.Lists.{queues_of}
 use Rattle.sig_interleaving.specs.declared.lists.Lists.{Lists}
@@ -27,13 +27,10 @@ pub record TakesTurnAt (k : ℕ) (acted : Acted) (old new : Core) : Type 0 where
 
 -- a step that answers this changes the state
 abbrev pub changes : Acted → Bool
-changes Done = true
-changes Commit = true
 changes (Empty j) = false
 changes (Full j) = false
-changes (Failed place) = true
-changes AtLimit = true
 changes Stopped = false
+changes other = true
 
 -- Of each state in which a core was, it is in the one behind the event.
 abbrev pub IsStepped : Event → Core → Core → Type 0
@@ -43,12 +40,7 @@ IsStepped event old new = (m : ModelCore) → Shows m old → Shows (stepped (gi
 abbrev pub CommitsAs : ℕ → Core → Acted → ModelCore → ModelCore → Type 0
 CommitsAs k new Commit m n = (s : ClusterState) → slice_get new.states.items k ≡ Some s
     → n.committed ≡ m.committed ++ last_reaction new.plan.now.kernel s ∷ []
-CommitsAs k new Done m n = n.committed ≡ m.committed
-CommitsAs k new (Empty j) m n = n.committed ≡ m.committed
-CommitsAs k new (Full j) m n = n.committed ≡ m.committed
-CommitsAs k new (Failed place) m n = n.committed ≡ m.committed
-CommitsAs k new AtLimit m n = n.committed ≡ m.committed
-CommitsAs k new Stopped m n = n.committed ≡ m.committed
+CommitsAs k new other m n = n.committed ≡ m.committed
 
 abbrev pub CommitsBy : ℕ → Acted → Core → Core → Type 0
 CommitsBy k acted old new = (m : ModelCore) → Shows m old → CommitsAs k new acted m (stepped (given_of old) m (Act k))

@@ -62,13 +62,10 @@ operand_value values (Const constant) = int_eq constant (pos 1)
 
 -- the presence that an equation of this form gives
 abbrev pub presence_by : List ℕ → Values → Form → Bool
-presence_by least values (Fun y op operands) = true
-presence_by least values (Delay y x initial) = true
 presence_by least values (When y x b) = (has least values b.0 && values.truth b.0) && has least values x.0
 presence_by least values (WhenConst y constant b) = has least values b.0 && values.truth b.0
 presence_by least values (Default y u v) = has least values u.0 || has least values v.0
-presence_by least values (Sync x y) = true
-presence_by least values (Event y x) = true
+presence_by least values _ = true
 
 -- the truth that an equation of this form gives, if it gives one
 abbrev pub truth_by_form : List Signal → List ℕ → Values → Form → Option Bool

@@ -14,34 +14,21 @@ use Rattle.sig_rel.specs.declared.rules.Rules.{Rules}
 
 -- a Default that has an operand of the class
 abbrev pub has_operand_of : List ℕ → ℕ → Form → Bool
-has_operand_of least class (Fun y op operands) = false
-has_operand_of least class (Delay y x initial) = false
-has_operand_of least class (When y x b) = false
-has_operand_of least class (WhenConst y constant b) = false
 has_operand_of least class (Default y u v) = (slice_index least u.0 == class) || (slice_index least v.0 == class)
-has_operand_of least class (Sync x y) = false
-has_operand_of least class (Event y x) = false
+has_operand_of least class _ = false
 
 -- a When, WhenConst or Default that defines a signal of the class
 abbrev pub governs : List ℕ → ℕ → Form → Bool
-governs least class (Fun y op operands) = false
-governs least class (Delay y x initial) = false
 governs least class (When y x b) = slice_index least y.0 == class
 governs least class (WhenConst y constant b) = slice_index least y.0 == class
 governs least class (Default y u v) = slice_index least y.0 == class
-governs least class (Sync x y) = false
-governs least class (Event y x) = false
+governs least class _ = false
 
 abbrev pub repeats : List ℕ → ℕ → Form → Form → Bool
-repeats least class counted (Fun y op operands) = false
-repeats least class counted (Delay y x initial) = false
-repeats least class counted (When y x b) = false
-repeats least class counted (WhenConst y constant b) = false
 repeats least class counted (Default y u v) =
     ((slice_index least u.0 == class) && has_operand_of least (slice_index least v.0) counted)
     || ((slice_index least v.0 == class) && has_operand_of least (slice_index least u.0) counted)
-repeats least class counted (Sync x y) = false
-repeats least class counted (Event y x) = false
+repeats least class counted _ = false
 
 -- the equation gives a class its presence from those of other classes
 abbrev pub gives : List ℕ → ℕ → Equation → Bool
@@ -105,13 +92,10 @@ has_operand kernel least placed (Const constant) = true
 
 -- what a form gives its signal's class stands behind was placed
 abbrev pub presence_ready : Kernel → List ℕ → Placed → Form → Bool
-presence_ready kernel least placed (Fun y op operands) = true
-presence_ready kernel least placed (Delay y x initial) = true
 presence_ready kernel least placed (When y x b) = has_class least placed x.0 && has_whole kernel least placed b.0
 presence_ready kernel least placed (WhenConst y constant b) = has_whole kernel least placed b.0
 presence_ready kernel least placed (Default y u v) = has_class least placed u.0 && has_class least placed v.0
-presence_ready kernel least placed (Sync x y) = true
-presence_ready kernel least placed (Event y x) = true
+presence_ready kernel least placed _ = true
 
 -- and what it gives its signal's truth stands behind
 abbrev pub truth_ready : Kernel → List ℕ → Placed → Form → Bool

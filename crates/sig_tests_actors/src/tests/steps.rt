@@ -3,25 +3,17 @@
 ghost use Rattle.std.specs.Prelude.{◌≡◌, ◌<◌, IfSome};
 ghost use Rattle.sig_dd.specs.Nodes.{Holds};
 ghost use Rattle.sig_kernel.specs.Validity.{AreFlowsFor};
-ghost use Rattle.sig_plan.specs.Plans.{IsAccepted};
 
 use super::kept::Kept;
 use sig_dd::{Ref, Steps, Store};
 use sig_kernel::Inputs;
 use sig_plan::Plan;
 use sig_schedule_laws::accepted_plans_are_runnable;
-use sig_step::{Acted, ClusterState};
+use sig_step::{Acted, ClusterState, plans_are_accepted};
 use std::alloc::Global;
 use std::fmt::Write;
 use std::sync::ledger::{Blank, Ledger};
 use std::test::Fail;
-
-/// A law: each plan is an accepted one.
-fn plans_are_accepted(plan: &Plan)
-    ensures { IsAccepted plan.now }
-{
-    let _kernel = &plan.kernel;
-}
 
 /// The guard of a slot of the first actor, if there is one, and its store.
 fn guard_at(plan: &Plan, number: u32) -> Option<(&Store, Ref)>

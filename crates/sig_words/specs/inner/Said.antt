@@ -3,10 +3,10 @@ use Rattle.std.specs.Prelude.{◌≡◌, ⊤, Bool, true, List, Option, option_m
 use Rattle.std.specs.Borrow.{Bor}
 use Rattle.std.specs.List.{AllByRecursion}
 use Rattle.sig_words.specs.Commands.{OptionValues, option_values}
-use Rattle.sig_words.specs.Readings.{Word, Item, Plain, Joined, Apart, Pace, Reading, IsReading, is_plain, plain_words}
+use Rattle.sig_words.specs.Readings.{Word, Item, Apart, Reading, IsReading, is_plain, plain_words}
 use Rattle.sig_words.specs.declared.command.Settings.{Settings}
 use Rattle.sig_words.specs.declared.command.Command.{Command}
-use Rattle.sig_words.specs.declared.command.Command.TheVariants.{Check, Print, Tree, Code, Run, Play, Load, Judge, Build, Exec}
+use Rattle.sig_words.specs.declared.command.Command.TheVariants.{Check, Tree, Code, Run, Play, Load, Exec}
 use Rattle.sig_words.specs.declared.given.Given.{Given}
 
 -- the texts behind references
@@ -40,10 +40,8 @@ said_values s = record {
 
 -- a value in a word of its own is a plain word, as every number is
 abbrev pub HasPlainValue : Item → Type 0
-HasPlainValue (Plain word) = ⊤
-HasPlainValue (Joined option value) = ⊤
 HasPlainValue (Apart option value) = is_plain value ≡ true
-HasPlainValue Pace = ⊤
+HasPlainValue _ = ⊤
 
 -- the words have a reading that says this
 pub record IsSaid (words : List Word) (s : Said) : Type 0 where
@@ -56,12 +54,10 @@ pub record IsSaid (words : List Word) (s : Said) : Type 0 where
 -- a command that holds these settings, or of them the flag, or none
 abbrev pub IsMadeWith : Settings → Command → Type 0
 IsMadeWith s (Check program pace) = pace ≡ s.pace
-IsMadeWith s (Print program) = ⊤
 IsMadeWith s (Tree program pace) = pace ≡ s.pace
 IsMadeWith s (Code program pace) = pace ≡ s.pace
 IsMadeWith s (Run program flows settings) = settings ≡ s
 IsMadeWith s (Play program flows events settings) = settings ≡ s
 IsMadeWith s (Load seed stages settings) = settings ≡ s
-IsMadeWith s (Judge program trace) = ⊤
-IsMadeWith s (Build program) = ⊤
 IsMadeWith s (Exec image flows settings) = settings ≡ s
+IsMadeWith s _ = ⊤

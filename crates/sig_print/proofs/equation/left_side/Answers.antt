@@ -2,9 +2,8 @@ use Rattle.sig_print.proofs.{[], ◌∷◌, codes, ◌≡◌, length, List, ◌+
 use Rattle.sig_print.proofs.equation.left_side.Goals as goal
 
 several : (names : List TreeName) → (length names ≡ 1 → ⊥) → left_words names ≡ mark (codes "(") ∷ (names_words names ++ mark (codes ")") ∷ [])
-several [] h = refl
 several (n ∷ []) h = absurd (h refl)
-several (n ∷ m ∷ ns) h = refl
+several _ h = refl
 
 pub returns-in_ok-names : goal.returns-in_ok-names
 returns-in_ok-names c = rw (several c.args.left.now c.if-left-eq1.false) (then_word _ c.word.new.self _ _ (mark (codes "(")) _ c.in_ok-word.ensures

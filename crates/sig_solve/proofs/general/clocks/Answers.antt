@@ -1,9 +1,9 @@
-use Rattle.sig_solve.proofs.{length, sym, ap, ◌∙◌, subst, get_or, arith, slice_get, AreGuards, clocks_are, leader_in, conditions_few}
+use Rattle.sig_solve.proofs.{length, sym, ap, ◌∙◌, subst, get_or, arith, slice_get, AreGuards, clocks_are, leader_in, conditions_within}
 use Rattle.sig_solve.proofs.general.clocks.Goals as goal
 
 pub guards_of-requires-clause-few : goal.guards_of-requires-clause-few
 guards_of-requires-clause-few c =
-    let few = conditions_few c.args.asked.now.frame.kernel.now in
+    let few = conditions_within c.args.asked.now.frame.kernel.now in
     let signals = c.requires.asked.valid.parts.signals in
     omega (arith, few, signals, c.requires.few, ap length c.as_slice.ensures.value)
 

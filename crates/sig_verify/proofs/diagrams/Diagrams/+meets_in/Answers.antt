@@ -1,52 +1,40 @@
-use Rattle.sig_verify.proofs.{◌≡◌, ◌-◌, ◌^◌, Bool, true, false, cond, suc, inl, inr, refl, sym, ap, subst, ◌∙◌, contains, IsTired, Meets, eq-value, high_few, high_tired, low_few, low_tired, pair_same, pass_on}
-use Rattle.sig_verify.proofs.diagrams.Diagrams.+meets_in.Goals.{In_ok-insert}
+use Rattle.sig_verify.proofs.{◌≡◌, ◌<◌, ◌+◌, ◌-◌, ◌^◌, ℕ, Bool, true, false, cond, suc, inl, inr, refl, sym, ap, subst, ◌∙◌, contains, IsTired, IsWithin, Meets, eq-value, high_few, high_tired, low_few, low_tired, pair_same, pass_on}
+use Rattle.sig_verify.proofs.diagrams.Diagrams.+meets_in.Goals.{After-meets_in, After-meets_in-2, In_ok-insert}
 use Rattle.sig_verify.proofs.diagrams.Diagrams.+meets_in.Goals as goal
 
-pub returns-in_err-meets_in-clause-counted : goal.returns-in_err-meets_in-clause-counted
-returns-in_err-meets_in-clause-counted t c = λ from to w.
+-- how many pairs were split behind the lower half, and behind both
+low_counted : (t : _) (c : After-meets_in t) → (from to : ℕ) → IsWithin c.args.self.now.store.nodes from to c.args.pair → c.meets_in.new.work.pairs < c.args.work.now.pairs + 2 ^ (to - from)
+low_counted t c from to w =
     let split = c.in-Open.ensures.step in
     let at = split.at from to w in
     low_few split.variable from to at.0 at.1 c.args.work.now c.count.new.self c.in_ok-count.ensures.counted
     c.meets_in.new.work (c.meets_in.ensures.counted (suc split.variable) to (split.low_within from to w))
+
+high_counted : (t : _) (c : After-meets_in-2 t) → (from to : ℕ) → IsWithin c.args.self.now.store.nodes from to c.args.pair → c.meets_in-2.new.work.pairs < c.args.work.now.pairs + 2 ^ (to - from)
+high_counted t c from to w =
+    let split = c.in-Open.ensures.step in
+    let at = split.at from to w in
+    high_few split.variable from to at.0 at.1 c.args.work.now c.count.new.self c.in_ok-count.ensures.counted
+    c.meets_in.new.work (c.meets_in.ensures.counted (suc split.variable) to (split.low_within from to w))
+    c.meets_in-2.new.work (c.meets_in-2.ensures.counted (suc split.variable) to (split.high_within from to w))
+
+pub returns-in_err-meets_in-clause-counted : goal.returns-in_err-meets_in-clause-counted
+returns-in_err-meets_in-clause-counted t c = low_counted t (goal.at.returns-in_err-meets_in-clause-counted t c).After-meets_in
 
 pub returns-then-branch-clause-counted : goal.returns-then-branch-clause-counted
-returns-then-branch-clause-counted t c = λ from to w.
-    let split = c.in-Open.ensures.step in
-    let at = split.at from to w in
-    low_few split.variable from to at.0 at.1 c.args.work.now c.count.new.self c.in_ok-count.ensures.counted
-    c.meets_in.new.work (c.meets_in.ensures.counted (suc split.variable) to (split.low_within from to w))
+returns-then-branch-clause-counted t c = low_counted t (goal.at.returns-then-branch-clause-counted t c).After-meets_in
 
 pub returns-in_err-meets_in-2-clause-counted : goal.returns-in_err-meets_in-2-clause-counted
-returns-in_err-meets_in-2-clause-counted t c = λ from to w.
-    let split = c.in-Open.ensures.step in
-    let at = split.at from to w in
-    high_few split.variable from to at.0 at.1 c.args.work.now c.count.new.self c.in_ok-count.ensures.counted
-    c.meets_in.new.work (c.meets_in.ensures.counted (suc split.variable) to (split.low_within from to w))
-    c.meets_in-2.new.work (c.meets_in-2.ensures.counted (suc split.variable) to (split.high_within from to w))
+returns-in_err-meets_in-2-clause-counted t c = high_counted t (goal.at.returns-in_err-meets_in-2-clause-counted t c).After-meets_in-2
 
 pub returns-then-branch-2-clause-counted : goal.returns-then-branch-2-clause-counted
-returns-then-branch-2-clause-counted t c = λ from to w.
-    let split = c.in-Open.ensures.step in
-    let at = split.at from to w in
-    high_few split.variable from to at.0 at.1 c.args.work.now c.count.new.self c.in_ok-count.ensures.counted
-    c.meets_in.new.work (c.meets_in.ensures.counted (suc split.variable) to (split.low_within from to w))
-    c.meets_in-2.new.work (c.meets_in-2.ensures.counted (suc split.variable) to (split.high_within from to w))
+returns-then-branch-2-clause-counted t c = high_counted t (goal.at.returns-then-branch-2-clause-counted t c).After-meets_in-2
 
 pub returns-in_err-insert-clause-counted : goal.returns-in_err-insert-clause-counted
-returns-in_err-insert-clause-counted t c = λ from to w.
-    let split = c.in-Open.ensures.step in
-    let at = split.at from to w in
-    high_few split.variable from to at.0 at.1 c.args.work.now c.count.new.self c.in_ok-count.ensures.counted
-    c.meets_in.new.work (c.meets_in.ensures.counted (suc split.variable) to (split.low_within from to w))
-    c.meets_in-2.new.work (c.meets_in-2.ensures.counted (suc split.variable) to (split.high_within from to w))
+returns-in_err-insert-clause-counted t c = high_counted t (goal.at.returns-in_err-insert-clause-counted t c).After-meets_in-2
 
 pub returns-clause-counted : goal.returns-clause-counted
-returns-clause-counted t c = λ from to w.
-    let split = c.in-Open.ensures.step in
-    let at = split.at from to w in
-    high_few split.variable from to at.0 at.1 c.args.work.now c.count.new.self c.in_ok-count.ensures.counted
-    c.meets_in.new.work (c.meets_in.ensures.counted (suc split.variable) to (split.low_within from to w))
-    c.meets_in-2.new.work (c.meets_in-2.ensures.counted (suc split.variable) to (split.high_within from to w))
+returns-clause-counted t c = high_counted t (goal.at.returns-clause-counted t c).After-meets_in-2
 
 pub returns-in_err-meets_in-clause-refused : goal.returns-in_err-meets_in-clause-refused
 returns-in_err-meets_in-clause-refused t c = λ from to w.
