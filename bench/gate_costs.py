@@ -30,7 +30,7 @@ def table(figures):
 def figures_of(page):
     """What the table of a page tells of each crate: seconds of its proof, of its tests, of its edits."""
     rows = page.partition(BEGIN)[2].partition(END)[0].splitlines()[2:]
-    cells = [[it.strip() for it in line.strip('|').split('|')] for line in rows]
+    cells = [[it.strip() for it in line.split('|')[1:-1]] for line in rows]
     return {it[0].strip('`'): [int(number.replace(',', '') or 0) for number in it[1:4]] for it in cells if it[0] != 'all'}
 
 

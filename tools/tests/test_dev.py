@@ -27,6 +27,8 @@ class Dev(unittest.TestCase):
         of = {"proof": 1200.4, "tests": 0.2, "seed": 3.0, "edits": 4.0, "peak": 2_600_000}
         page = dev.gate_costs.BEGIN + dev.gate_costs.table({"sig_a": of, "sig_b": {**of, "proof": 0.0}}) + dev.gate_costs.END
         self.assertEqual(dev.gate_costs.figures_of(page), {"sig_a": [1200, 0, 7], "sig_b": [0, 0, 7]})
+        bare = dev.gate_costs.BEGIN + "|Crate|proof|tests|edits|GB|\n|---|---|---|---|---|\n|sig_c|298||||\n" + dev.gate_costs.END
+        self.assertEqual(dev.gate_costs.figures_of(bare), {"sig_c": [298, 0, 0]})
 
     def test_where_rows_stand(self):
         self.assertEqual(list(dev.rows("sig_print")), [("print.txt", 22)])
