@@ -12,7 +12,7 @@ use sig_rows_text::write_text_row;
 use std::alloc::Global;
 
 /// The answer to the words of a row.
-pub fn answer(
+pub(crate) fn answer(
     alloc: Global,
     store: &mut Store,
     refs: &mut Vec<Ref>,

@@ -9,7 +9,7 @@ use std::process::ExitCode;
 use std::rt::Files;
 
 /// Prints what the passes answer for the program in a file, with the flows in another one.
-pub fn print_report<R: Print + Files + AllocGlobal>(
+pub(crate) fn print_report<R: Print + Files + AllocGlobal>(
     rt: &R,
     program: &str,
     flows: Option<&String>,

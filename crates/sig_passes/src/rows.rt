@@ -21,7 +21,10 @@ struct Count {
 }
 
 /// Asks for each row of these files, and tells the rows that fail.
-pub fn check_files<R: Print + Files + AllocGlobal>(rt: &R, paths: &[String]) -> Result<ExitCode> {
+pub(crate) fn check_files<R: Print + Files + AllocGlobal>(
+    rt: &R,
+    paths: &[String],
+) -> Result<ExitCode> {
     let mut count = Count {
         passed: 0,
         failed: 0,

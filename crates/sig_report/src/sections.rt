@@ -61,7 +61,7 @@ fn push_equations(out: &mut String, kernel: &Kernel) -> Result<(), AllocError> {
 }
 
 /// Adds the counts, signals and equations.
-pub fn push_kernel(out: &mut String, kernel: &Kernel) -> Result<(), AllocError> {
+pub(crate) fn push_kernel(out: &mut String, kernel: &Kernel) -> Result<(), AllocError> {
     let signals = kernel.signals.as_slice().len();
     let equations = kernel.equations.as_slice().len();
     let (inputs, outputs, declared) = (kernel.inputs, kernel.outputs, kernel.declared);
@@ -74,7 +74,11 @@ pub fn push_kernel(out: &mut String, kernel: &Kernel) -> Result<(), AllocError> 
 }
 
 /// Adds a line of a word and numbers.
-pub fn push_numbers(out: &mut String, word: &str, numbers: &[u32]) -> Result<(), AllocError> {
+pub(crate) fn push_numbers(
+    out: &mut String,
+    word: &str,
+    numbers: &[u32],
+) -> Result<(), AllocError> {
     let mut between = if word.is_empty() { "" } else { " " };
     out.push_str(word)?;
     for number in numbers {
@@ -85,7 +89,7 @@ pub fn push_numbers(out: &mut String, word: &str, numbers: &[u32]) -> Result<(),
 }
 
 /// Adds a line of a word and the numbers of signals.
-pub fn push_signals(
+pub(crate) fn push_signals(
     alloc: Global,
     out: &mut String,
     word: &str,

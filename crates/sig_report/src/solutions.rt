@@ -22,7 +22,7 @@ use std::fmt::Write;
 
 /// Adds the clocks and the order of the operations, and the title of the section behind them, as far as there are some:
 /// the line of a refusal is still to come.
-pub fn push_solution(alloc: Global, out: &mut String, kernel: &Kernel) -> Result<()>
+pub(crate) fn push_solution(alloc: Global, out: &mut String, kernel: &Kernel) -> Result<()>
     requires { IsValid kernel.now }
 {
     out.push_str("== clocks\n")?;

@@ -18,7 +18,7 @@ use std::fmt::Write;
 /// Adds the classes of the signals, the layers of the classes, the conditions and how many guards there are, or the
 /// refusal; in place of the clocks the parents of the classes and the text of their hierarchy, where these are asked
 /// for.
-pub fn write_clocks(
+pub(crate) fn write_clocks(
     alloc: Global,
     out: &mut String,
     kernel: &Kernel,
@@ -63,7 +63,12 @@ fn write_tree(
 
 /// Adds how many inputs, outputs, declared signals, signals and equations the kernel with its paces has, the inputs'
 /// names and the last equation; or the refusal.
-pub fn write_paced(alloc: Global, out: &mut String, kernel: Kernel, store: &mut Store) -> Result<()>
+pub(crate) fn write_paced(
+    alloc: Global,
+    out: &mut String,
+    kernel: Kernel,
+    store: &mut Store,
+) -> Result<()>
     requires { IsValid kernel }
     ensures { length store.old.nodes ≤ length store.new.nodes }
 {

@@ -23,7 +23,7 @@ fn parity(store: &mut Store, count: u32) -> Result<Ref, DdAnswer>
 }
 
 /// The function that is made, or why it is not; nothing where none is asked for.
-pub fn made(
+pub(crate) fn made(
     store: &mut Store,
     what: &str,
     held: &[Ref],
@@ -49,7 +49,7 @@ pub fn made(
 }
 
 /// Adds what is asked of the functions.
-pub fn write_told(
+pub(crate) fn write_told(
     out: &mut String,
     store: &mut Store,
     what: &str,

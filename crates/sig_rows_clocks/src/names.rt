@@ -4,10 +4,10 @@ use sig_dd::Ref;
 use std::alloc::AllocError;
 
 /// The names of functions: the constants, and then the others, as they were made.
-pub const NAMES: &str = "FTabcdefghijklmnopqrstuvwxyz";
+pub(crate) const NAMES: &str = "FTabcdefghijklmnopqrstuvwxyz";
 
 /// Adds the names of functions; `?` of one that has none.
-pub fn write_names(out: &mut String, refs: &[Ref], list: &[Ref]) -> Result<(), AllocError> {
+pub(crate) fn write_names(out: &mut String, refs: &[Ref], list: &[Ref]) -> Result<(), AllocError> {
     for f in list {
         let place = refs
             .iter()

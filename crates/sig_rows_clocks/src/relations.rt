@@ -48,7 +48,7 @@ fn write_summed(out: &mut String, numbers: &[u32]) -> Result<(), AllocError> {
 
 /// Adds the numbers below a limit whose truths the kernel's relation holds of, behind those of so many variables, and
 /// the unknowns of the signals where they are asked for.
-pub fn write_relation(
+pub(crate) fn write_relation(
     alloc: Global,
     out: &mut String,
     kernel: &Kernel,
@@ -95,7 +95,7 @@ fn system_of(
 }
 
 /// Adds the system of a kernel by cuts, or without them.
-pub fn write_system(
+pub(crate) fn write_system(
     alloc: Global,
     out: &mut String,
     kernel: &Kernel,

@@ -15,7 +15,7 @@ fn all_below(variables: &[u32], count: usize) -> bool
 }
 
 /// The function's value, where the truths tell each of its variables.
-pub fn value(store: &Store, f: Ref, truths: &[bool]) -> Result<Option<bool>, DdAnswer>
+pub(crate) fn value(store: &Store, f: Ref, truths: &[bool]) -> Result<Option<bool>, DdAnswer>
     requires { Holds store.now.nodes f }
 {
     value_with::<Brand>(store, f, truths, Blank::new(1))

@@ -12,7 +12,7 @@ use sig_file::ImageSignal;
 use sig_kernel::{Flow, Inputs};
 
 /// Whether there is one flow for each input, with values of its kind.
-pub fn fits(image: &Verified, inputs: &Inputs) -> bool
+pub(crate) fn fits(image: &Verified, inputs: &Inputs) -> bool
     ensures { IsTrue result → AreFlowsOf image.now inputs.now }
 {
     let flows = inputs.as_slice();

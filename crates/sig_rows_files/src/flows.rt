@@ -10,7 +10,7 @@ use std::alloc::{AllocError, Global};
 use std::fmt::Write;
 
 /// Adds the values that are put for a signal Y into a sink with room for so many bytes.
-pub fn write_put(alloc: Global, out: &mut String, text: &str) -> Result<()> {
+pub(crate) fn write_put(alloc: Global, out: &mut String, text: &str) -> Result<()> {
     let (room, values) = text.split_once(' ').unwrap_or((text, ""));
     let mut sink = MemSink::new(alloc, room.parse::<u32>()?)?;
     write_sink(alloc, out, &mut sink, values)
@@ -46,7 +46,11 @@ fn kind_of(name: &str) -> Kind {
 }
 
 /// Adds the events of an event file, or the refusal.
-pub fn write_events(alloc: Global, out: &mut String, bytes: &[u8]) -> Result<(), AllocError> {
+pub(crate) fn write_events(
+    alloc: Global,
+    out: &mut String,
+    bytes: &[u8],
+) -> Result<(), AllocError> {
     match read_events(alloc, bytes) {
         Ok(events) if events.len() > 1000 => write!(out, "{}", events.len()),
         Ok(events) => write!(out, "{events:?}"),
@@ -55,7 +59,12 @@ pub fn write_events(alloc: Global, out: &mut String, bytes: &[u8]) -> Result<(),
 }
 
 /// Adds the flows of a flow file for the inputs of a program, or the refusal.
-pub fn write_flows(alloc: Global, out: &mut String, program: &[u8], bytes: &[u8]) -> Result<()> {
+pub(crate) fn write_flows(
+    alloc: Global,
+    out: &mut String,
+    program: &[u8],
+    bytes: &[u8],
+) -> Result<()> {
     let inputs = flat_of(alloc, program)?.signals;
     match read_named(alloc, bytes, &inputs) {
         Ok(flows) => write_each(out, &flows),

@@ -31,7 +31,7 @@ fn image_bytes(alloc: Global, plan: &Plan) -> Result<Vec<u8>> {
 }
 
 /// The bytes of an image by words: of the program's image, where the first one is `+`, with what the others tell.
-pub fn image_of(alloc: Global, program: &[u8], text: &str) -> Result<Vec<u8>> {
+pub(crate) fn image_of(alloc: Global, program: &[u8], text: &str) -> Result<Vec<u8>> {
     let (mut bytes, words) = match text.strip_prefix('+') {
         Some(words) => (built(alloc, program)?, words),
         None => (Vec::new(alloc), text),
@@ -65,7 +65,12 @@ fn put_byte(bytes: &mut [u8], at: usize, value: &str) -> Result<()> {
 }
 
 /// Adds whether the program's image is of these bytes.
-pub fn write_built(alloc: Global, out: &mut String, program: &[u8], text: &str) -> Result<()> {
+pub(crate) fn write_built(
+    alloc: Global,
+    out: &mut String,
+    program: &[u8],
+    text: &str,
+) -> Result<()> {
     let bytes = built(alloc, program)?;
     let wanted = image_of(alloc, program, text)?;
     Ok(write!(out, "{}", bytes.as_slice() == wanted.as_slice())?)
@@ -73,7 +78,7 @@ pub fn write_built(alloc: Global, out: &mut String, program: &[u8], text: &str) 
 
 /// Adds whether an image is written again, whether it has more than 32,000 nodes, and its first operation that is not
 /// sound; or the refusal.
-pub fn write_image_read(alloc: Global, out: &mut String, bytes: &[u8]) -> Result<()> {
+pub(crate) fn write_image_read(alloc: Global, out: &mut String, bytes: &[u8]) -> Result<()> {
     if bytes.len() > IMAGE_BYTES {
         bail!("the image is too long");
     }
@@ -105,7 +110,7 @@ fn unsound_of(alloc: Global, image: Image) -> Result<Option<usize>> {
 }
 
 /// The verified image that words tell, as `image_of` has them.
-pub fn verified(alloc: Global, program: &[u8], text: &str) -> Result<Verified> {
+pub(crate) fn verified(alloc: Global, program: &[u8], text: &str) -> Result<Verified> {
     let bytes = image_of(alloc, program, text)?;
     verified_of(alloc, &bytes)
 }
@@ -122,7 +127,7 @@ fn verified_of(alloc: Global, bytes: &[u8]) -> Result<Verified> {
 
 /// Adds, for each length of the image's beginnings, where the first broken field begins: each that begins at the cut, and
 /// others, which none should be, with the cut.
-pub fn write_cuts(alloc: Global, out: &mut String, bytes: &[u8]) -> Result<(), AllocError> {
+pub(crate) fn write_cuts(alloc: Global, out: &mut String, bytes: &[u8]) -> Result<(), AllocError> {
     let mut field = 0;
     for at in 0..bytes.len() {
         let offset = broken(alloc, &bytes[..at]);
@@ -138,7 +143,12 @@ pub fn write_cuts(alloc: Global, out: &mut String, bytes: &[u8]) -> Result<(), A
 }
 
 /// Adds where the first broken field begins with each of these values for a byte of the image.
-pub fn write_sets(alloc: Global, out: &mut String, program: &[u8], text: &str) -> Result<()> {
+pub(crate) fn write_sets(
+    alloc: Global,
+    out: &mut String,
+    program: &[u8],
+    text: &str,
+) -> Result<()> {
     let (at, values) = text.split_once(' ').context("there are no values")?;
     let at = at.parse::<usize>()?;
     let mut bytes = built(alloc, program)?;

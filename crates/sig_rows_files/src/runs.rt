@@ -11,7 +11,7 @@ use std::fmt::Write;
 
 /// Adds the end of the run of an image, and its text. The words are the limit, the room of the sink and the image's, and
 /// behind a `~` the values of each input.
-pub fn write_run(alloc: Global, out: &mut String, program: &[u8], text: &str) -> Result<()> {
+pub(crate) fn write_run(alloc: Global, out: &mut String, program: &[u8], text: &str) -> Result<()> {
     let (head, lines) = text.split_once('~').unwrap_or((text, ""));
     let (limit, head) = head.split_once(' ').context("there is no limit")?;
     let (room, words) = head.split_once(' ').context("there is no room")?;

@@ -8,7 +8,7 @@ use std::alloc::{AllocError, Global};
 use std::fmt::Write;
 
 /// Adds the instants of a trace file for a program, or the verdict on them where it is asked for; or the refusal.
-pub fn write_trace(
+pub(crate) fn write_trace(
     alloc: Global,
     out: &mut String,
     program: &[u8],

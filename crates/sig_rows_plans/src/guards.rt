@@ -26,7 +26,7 @@ fn first_of(clocks: &Clocks, guard: Ref) -> Option<usize> {
 }
 
 /// Adds the slots of a code, each with the truth of its guard, the first signal that has this guard, and its parent.
-pub fn put_slots(out: &mut String, plan: &Plan, code: &Code) -> Result<(), AllocError> {
+pub(crate) fn put_slots(out: &mut String, plan: &Plan, code: &Code) -> Result<(), AllocError> {
     for slot in code.slots() {
         let truth = truth_of(&plan.store, slot.guard);
         let first = first_of(&plan.clocks, slot.guard);
@@ -36,7 +36,7 @@ pub fn put_slots(out: &mut String, plan: &Plan, code: &Code) -> Result<(), Alloc
 }
 
 /// Adds the slots of the steps of a code.
-pub fn put_steps(out: &mut String, code: &Code) -> Result<(), AllocError> {
+pub(crate) fn put_steps(out: &mut String, code: &Code) -> Result<(), AllocError> {
     for step in code.steps() {
         write!(out, "{} ", step.slot)?;
     }

@@ -47,7 +47,7 @@ fn write_flat(out: &mut String, flat: &Flat) -> Result<(), AllocError> {
 }
 
 /// Adds how many kinds a program is given back with, or its flat body, whichever is asked for; or the refusal.
-pub fn write_typed(alloc: Global, out: &mut String, kind: &str, text: &[u8]) -> Result<()> {
+pub(crate) fn write_typed(alloc: Global, out: &mut String, kind: &str, text: &[u8]) -> Result<()> {
     trees_of_texts();
     let program = read_program(alloc, text)?;
     match check_owned(alloc, program) {
@@ -67,7 +67,12 @@ pub fn write_typed(alloc: Global, out: &mut String, kind: &str, text: &[u8]) -> 
 }
 
 /// Adds that a text is read or that its program is checked, whichever is asked for, or the first refusal.
-pub fn write_checked(alloc: Global, out: &mut String, kind: &str, text: &[u8]) -> Result<()> {
+pub(crate) fn write_checked(
+    alloc: Global,
+    out: &mut String,
+    kind: &str,
+    text: &[u8],
+) -> Result<()> {
     if text.len() > PROGRAM_BYTES {
         bail!("the text is too long");
     }

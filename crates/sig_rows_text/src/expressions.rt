@@ -38,7 +38,7 @@ fn binary_text(op: BinOp) -> &'static str {
     }
 }
 
-pub fn write_constant(out: &mut String, constant: &Constant) -> Result<(), AllocError> {
+pub(crate) fn write_constant(out: &mut String, constant: &Constant) -> Result<(), AllocError> {
     match constant {
         Constant::Int(value, _) => write!(out, " init {value}"),
         Constant::Bool(truth, _) => write!(out, " init {truth}"),
@@ -47,7 +47,7 @@ pub fn write_constant(out: &mut String, constant: &Constant) -> Result<(), Alloc
 }
 
 /// An expression with parentheses around each operator.
-pub fn write_tree(out: &mut String, e: &Expr) -> Result<(), AllocError> {
+pub(crate) fn write_tree(out: &mut String, e: &Expr) -> Result<(), AllocError> {
     match e {
         Expr::Name(name) => return out.push_str(written(&name.text)),
         Expr::Int(value, _) => return write!(out, "{value}"),

@@ -71,7 +71,12 @@ fn write_forms(
 }
 
 /// Adds what is asked of the kernel of a program, or the refusal.
-pub fn write_kernel(alloc: Global, out: &mut String, kind: &str, bytes: &[u8]) -> Result<()> {
+pub(crate) fn write_kernel(
+    alloc: Global,
+    out: &mut String,
+    kind: &str,
+    bytes: &[u8],
+) -> Result<()> {
     let text = str::from_utf8(bytes)?;
     let (first, text) = text.split_once(' ').context("there is no first number")?;
     let (last, text) = text.split_once(' ').context("there is no last number")?;

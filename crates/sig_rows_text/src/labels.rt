@@ -48,7 +48,7 @@ fn is_token(
 }
 
 /// Adds how many texts of a list before, a list asked for and a list behind have their token.
-pub fn write_neighbours(alloc: Global, out: &mut String, words: &str) -> Result<()> {
+pub(crate) fn write_neighbours(alloc: Global, out: &mut String, words: &str) -> Result<()> {
     let words: Vec<&str> = words.split(' ').collect(alloc)?;
     let [kind, more, before, asked, behind] = words.as_slice() else {
         bail!("there are five words");
@@ -77,7 +77,7 @@ fn count_of(
 }
 
 /// Adds the bytes that may stand in a label.
-pub fn write_labels(alloc: Global, out: &mut String) -> Result<(), AllocError> {
+pub(crate) fn write_labels(alloc: Global, out: &mut String) -> Result<(), AllocError> {
     let mut kept = Vec::new(alloc);
     for byte in 0..=255u8 {
         if lexed(alloc, &[b'"', byte, b'"']).is_ok() {

@@ -111,7 +111,7 @@ fn one_flow(alloc: Global) -> Result<Inputs, AllocError> {
 }
 
 /// Adds whether the kernel is valid, or whether the flow fits.
-pub fn write_valid(alloc: Global, out: &mut String, kind: &str, text: &str) -> Result<()> {
+pub(crate) fn write_valid(alloc: Global, out: &mut String, kind: &str, text: &str) -> Result<()> {
     let kernel = kernel_of(alloc, text)?;
     let holds = if kind == "fits" {
         one_flow(alloc)?.fits(&kernel)

@@ -8,7 +8,7 @@ use std::alloc::{AllocError, Global};
 use std::fmt::Write;
 
 /// Adds whether each of the words before was there when it was added, and the places of those behind.
-pub fn write_texts(alloc: Global, out: &mut String, text: &str) -> Result<()> {
+pub(crate) fn write_texts(alloc: Global, out: &mut String, text: &str) -> Result<()> {
     let (added, asked) = text.split_once(" ~ ").context("there is no list behind")?;
     Ok(write_places(alloc, out, added, asked)?)
 }
@@ -31,7 +31,7 @@ fn write_places(
 }
 
 /// Adds how many processes the program has, and the place and the number of equations of each that is named.
-pub fn write_processes(alloc: Global, out: &mut String, text: &str) -> Result<()> {
+pub(crate) fn write_processes(alloc: Global, out: &mut String, text: &str) -> Result<()> {
     let (names, text) = text.split_once(" ~ ").context("there is no program")?;
     let program = read_program(alloc, text.as_bytes())?;
     Ok(write_each(alloc, out, &program, names)?)

@@ -11,7 +11,12 @@ use std::fmt::Write;
 
 /// Adds what comes of a text that is parsed: `read`, its canonical text, the parts of its one process or its equation; or
 /// the refusal.
-pub fn write_parsed(alloc: Global, out: &mut String, kind: &str, bytes: &[u8]) -> Result<()> {
+pub(crate) fn write_parsed(
+    alloc: Global,
+    out: &mut String,
+    kind: &str,
+    bytes: &[u8],
+) -> Result<()> {
     match parsed(alloc, bytes)? {
         Ok(program) if kind == "print" => write_printed(alloc, out, &program),
         Ok(program) => Ok(write_program(out, kind, program.processes.as_slice())?),

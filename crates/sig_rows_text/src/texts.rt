@@ -8,7 +8,7 @@ use sig_tree::Program;
 use std::alloc::Global;
 
 /// The tokens of a text that is not too long.
-pub fn lexed(alloc: Global, text: &[u8]) -> Result<Vec<Token>, LexAnswer> {
+pub(crate) fn lexed(alloc: Global, text: &[u8]) -> Result<Vec<Token>, LexAnswer> {
     if text.len() <= PROGRAM_BYTES {
         lex(alloc, text)
     } else {
@@ -17,7 +17,7 @@ pub fn lexed(alloc: Global, text: &[u8]) -> Result<Vec<Token>, LexAnswer> {
 }
 
 /// The program of a text, or its refusal.
-pub fn parsed(alloc: Global, text: &[u8]) -> Result<Result<Program, ParseAnswer>> {
+pub(crate) fn parsed(alloc: Global, text: &[u8]) -> Result<Result<Program, ParseAnswer>> {
     if text.len() > PROGRAM_BYTES {
         bail!("the text is too long");
     }

@@ -36,7 +36,7 @@ fn write_each(out: &mut String, text: &[u8], tokens: &[Token]) -> Result<(), All
 }
 
 /// Adds the tokens of a text, or the fault.
-pub fn write_tokens(alloc: Global, out: &mut String, text: &[u8]) -> Result<(), AllocError> {
+pub(crate) fn write_tokens(alloc: Global, out: &mut String, text: &[u8]) -> Result<(), AllocError> {
     match lexed(alloc, text) {
         Ok(tokens) => write_each(out, text, &tokens),
         Err(answer) => write!(out, "{answer}"),

@@ -68,7 +68,7 @@ fn words_of(alloc: Global, line: &str) -> Result<Vec<String>, AllocError> {
 }
 
 /// Adds the command of a line's words, or the answer.
-pub fn write_words(alloc: Global, out: &mut String, line: &str) -> Result<(), AllocError> {
+pub(crate) fn write_words(alloc: Global, out: &mut String, line: &str) -> Result<(), AllocError> {
     let words = words_of(alloc, line)?;
     match read_words(alloc, words.as_slice()) {
         Ok(command) => write_command(out, &command),
