@@ -24,7 +24,7 @@ BOUNDS = {
     "docs/errors.md": 28_160,
     "docs/formats.md": 20_480,
     "docs/from-lustre.md": 9_344,
-    "docs/gate-costs.md": 3_792,
+    "docs/gate-costs.md": 3_840,
     "docs/gate.md": 4_480,
     "docs/glossary.md": 4_736,
     "docs/idioms.md": 7_424,

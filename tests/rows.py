@@ -3,8 +3,8 @@
 
 The rows of tests/rows/*.txt are asked of the program sig_passes, which tells what each pass answers; those of
 tests/rows/commands/*.txt are calls of the program sigc. Both are the programs that the gate built, in crates/*/out, or those
-that the variables SIG_PASSES and SIGC name. A NAME is a file of rows, as clocks or commands/run; without one all are read,
-and WATCH is called with each beginning of its texts. The last line is `N passed, M failed`.
+that the variables SIG_PASSES and SIGC name. A NAME is a file of rows, as clocks or commands/run, or the folder commands;
+without one all are read, and WATCH is called with each beginning of its texts. The last line is `N passed, M failed`.
 """
 import concurrent.futures
 import glob
@@ -156,6 +156,7 @@ def main():
     given = words.pop(0) if words and os.path.isfile(words[0]) else None
     program = os.path.realpath(given or default_program())
     named = [os.path.relpath(it, ROWS).removesuffix(".txt") for it in sorted(glob.glob(f"{ROWS}/**/*.txt", recursive=True))]
+    words = [it for word in words for it in ([one for one in named if one.startswith(f"{word}/")] or [word])]
     unknown = [it for it in words if it not in named]
     if unknown:
         print(f"rows.py: there is no {unknown[0]}\n0 passed, 1 failed")

@@ -45,6 +45,10 @@ class Dev(unittest.TestCase):
                 for name in os.listdir(f"{TOP}/wrong-bodies/{crate}") if os.path.isdir(f"{TOP}/wrong-bodies/{crate}") else []:
                     self.assertIn(name.removesuffix(".edit"), said.getvalue())
 
+    def test_who_reads_a_text_is_asked_over_a_program(self):
+        self.assertIn("tests/docs.py crates/sigc/out/unproved", ran("sigc-dev", "sig_hier").stdout)
+        self.assertNotIn("unproved", ran("sigc-dev", "sig_rows_text").stdout)
+
     def test_a_crate_that_is_none(self):
         done = ran("sigc-dev", "sig_prin")
         self.assertEqual((done.returncode, done.stderr), (2, "sigc-dev: there is no crate sig_prin: did you mean sig_print?\n"))

@@ -96,15 +96,31 @@ def tell(crate):
     next_steps(crate, over, below, proof, [it for it, _ in files], callers, bool(wrong))
 
 
+def over_program(command, why):
+    """A step that is asked of the program without proofs."""
+    return command.replace("PROGRAM", "crates/sigc/out/unproved"), why
+
+
+# What tells who shows or reads the texts of commands.
+OVER_PROGRAM = [
+    over_program("tools/sigc-build --unproved", "PROGRAM, some three minutes; what follows may go on beside `rt ci`"),
+    over_program("python3 tests/rows.py PROGRAM commands", "the rows of commands, tests/rows/commands"),
+    over_program("python3 tests/docs.py PROGRAM", "pages that show a text, and the lengths of pages"),
+    over_program("SIGC=$PWD/PROGRAM python3 tests/scripts.py", "scripts that read a text; `grep -rn '\"tree\"' tools` finds who calls `sigc tree`"),
+    over_program("python3 tests/faults.py PROGRAM", "answers where the outside fails"),
+]
+
+
 def next_steps(crate, over, below, proof, files, callers, has_wrong):
     """The commands to run, in order."""
     tops = [it for it in [crate, *over] if not any(it in below[one] for one in over)]
     steps = [(f"(cd crates/{crate} && rt check)", f"until it proves: {proof} s from nothing, less behind the first")]
     steps += [(f"(cd crates/sig_passes && rt try -- --rows $PWD/../../tests/rows/{it})", "its rows, nothing proved") for it in files]
     steps += [(f"(cd crates/{it} && rt try --test)", "its tests, nothing proved") for it in callers]
-    steps += [(f"bench/wrong_bodies.sh {crate}", "each wrong body is refused")] if has_wrong else []
     steps += [("python3 tests/edits.py", "each edit of all crates still applies")]
+    steps += [(f"bench/wrong_bodies.sh {crate}", "each wrong body is refused")] if has_wrong else []
     steps += [(f"(cd crates/{crate} && rt fmt && rt tidy)", "layout, and imports of proofs")]
+    steps += OVER_PROGRAM if "sigc" in over else []
     steps += [(f"rt ci {' '.join(tops)}", "it and all above, from what changed"), (".ci/run", "the gate")]
     print("\nnext, from the top of the repository:")
     for command, why in steps:
