@@ -19,11 +19,16 @@ def row(name, proof, tests, edits, memory):
     return '|' + '|'.join(cells) + '|\n'
 
 
+def memory_of(figure):
+    """The most memory of one check in GB, where it is much."""
+    return f'{figure["peak"] / 1e6:.1f}' if figure['peak'] >= 2e6 else ''
+
+
 def table(figures):
     """The table as Markdown, the dearest crate first."""
     of = {crate: (it['proof'], it['tests'], it['seed'] + it['edits']) for crate, it in figures.items()}
     lines = ['|Crate|proof|tests|edits|GB|\n|---|---|---|---|---|\n']
-    lines += [row(crate, *of[crate], f'{figures[crate]["peak"] / 1e6:.1f}') for crate in sorted(of, key=lambda it: -sum(of[it]))]
+    lines += [row(crate, *of[crate], memory_of(figures[crate])) for crate in sorted(of, key=lambda it: -sum(of[it]))]
     return ''.join(lines) + row('all', *(sum(it) for it in zip(*of.values())), '')
 
 
