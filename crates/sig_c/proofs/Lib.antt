@@ -1,0 +1,20 @@
+mod Arithmetic
+mod Blocks
+mod Expressions
+pub mod Files
+pub mod FreeNames
+pub mod HelperAnswers
+pub mod Layouts
+pub mod Lines
+mod Numbers
+mod Products
+pub mod Quotients
+pub mod Scanning
+mod Sequences
+mod Sizes
+mod Statements
+mod Tables
+pub mod UnitTexts
+mod Units
+mod Variables
+mod Words

@@ -1,0 +1,12 @@
+pub mod Answers
+pub mod Calls
+pub mod File
+pub mod Helpers
+pub mod Layout
+pub mod Meaning
+pub mod Names
+pub mod Reader
+pub mod SmallC
+pub mod Texts
+pub mod Tokens
+pub mod Written

@@ -1,0 +1,17 @@
+pub mod Beginnings
+pub mod Blocks
+pub mod Conditions
+pub mod Endings
+pub mod FunctionValues
+pub mod GuardNodes
+pub mod Guards
+pub mod LaidOut
+pub mod Likeness
+pub mod Lists
+pub mod MayBeWritten
+pub mod OperationEnds
+pub mod Operations
+pub mod StateKinds
+pub mod StepCalls
+pub mod Steps
+pub mod Variables
