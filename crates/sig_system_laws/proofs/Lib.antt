@@ -1,0 +1,25 @@
+pub mod Common
+pub mod Prefixes
+pub mod Reactions
+pub mod Reached
+pub mod Join
+pub mod Final
+pub mod Bounds
+pub mod BoundedJoin
+pub mod Faults
+pub mod LongerFlows
+pub mod CarriedValues
+pub mod Runs
+pub mod Starved
+pub mod ComesToAnEnd
+unfoldable pub use Common.*
+pub use BoundedJoin.*
+pub use Bounds.*
+pub use Faults.*
+pub use Final.*
+pub use Join.*
+pub use LongerFlows.*
+pub use CarriedValues.*
+pub use ComesToAnEnd.*
+pub use Runs.*
+pub use Starved.*
