@@ -58,8 +58,10 @@ abbrev pub wider : Width → Width → Width
 wider Wide w = Wide
 wider Truth w = w
 
+-- a decimal up to 2147483647 may be an int, and a greater number is written as one of 64 bits (6.4.4.1p5, 7.20.4.1)
 abbrev pub width_of_number : ℤ → Width
-width_of_number v = if is_int v then Truth else Wide
+width_of_number (pos n) = if nat_lt n (2 ^ 31) then Truth else Wide
+width_of_number (negsuc n) = if nat_lt n (2 ^ 31 - 1) then Truth else Wide
 
 -- comparisons and truths are of type int (6.5.8p6, 6.5.9p3, 6.5.13p3, 6.5.14p3)
 abbrev pub width_of_operator : Operator → Width → Width → Width

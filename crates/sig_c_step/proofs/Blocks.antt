@@ -1,5 +1,5 @@
 -- The blocks of a step do what the operations of an image do, in order.
-use Rattle.std.proofs.Common.{◌≡◌, inl, inr, ◌+◌, ◌++◌, ℕ, suc, Bool, true, false, List, [], ◌∷◌, Some, refl, sym, ap, subst, ◌∙◌, arith, length, map, nat_eq, slice_get, if◌then◌else◌}
+use Rattle.std.proofs.Common.{◌≡◌, inl, inr, ◌<◌, ◌+◌, ◌++◌, ℕ, suc, Bool, true, false, List, [], ◌∷◌, Some, refl, sym, ap, subst, ◌∙◌, arith, length, map, nat_eq, slice_get, if◌then◌else◌}
 use Rattle.std.specs.Prelude.{option_map}
 use Rattle.std.specs.List.{flat_map}
 use Rattle.std.proofs.lemmas.Bool.Decides.{eqb_tells}
@@ -7,16 +7,20 @@ use Rattle.std.proofs.lemmas.List.{length-map}
 use Rattle.std.proofs.lemmas.List.Concat.{flat_map-cons}
 use Rattle.std.proofs.lemmas.Option.{slice_get-map}
 use Rattle.sig_lists.proofs.Joined.{still_at}
+use Rattle.sig_lists.proofs.Places.{some_at}
 use Rattle.sig_file.specs.Guarded.{IsSoundImage, guarded_in, guards_of}
 use Rattle.sig_file.specs.ImageRuns.{State, Ends, EndsIn, Handles, HandlesAll}
-use Rattle.sig_file.specs.Images.{ImageView, IsImage}
+use Rattle.sig_file.specs.Images.{ImageView, IsImage, MayDo, scope_of}
 use Rattle.sig_file.specs.declared.images.ImageOp.{ImageOp}
+use Rattle.sig_file.specs.declared.images.ImageOpKind.{ImageOpKind}
+use Rattle.sig_file.specs.declared.images.ImageOpKind.TheVariants as does
 use Rattle.sig_file.specs.declared.run.ImageCause.{ImageCause}
-use Rattle.sig_exec.proofs.Places.{operation_at}
+use Rattle.sig_exec.proofs.Places.{operation_at, writes_within}
+use Rattle.sig_exec.proofs.KeptKinds.{none_is}
 use Rattle.sig_c.specs.SmallC.{Place, Statements, none, Width, EndCause, EndRow}
 use Rattle.sig_c.specs.Meaning.{Memory, Outcome, GoesOn, Returned, HelperCalls, and_then, run}
-use Rattle.sig_c_step.specs.Correct.{IsCauseOf, IsRowOf}
-use Rattle.sig_c_step.specs.Translation.{block, blocks, causes_of, doing, ends_of, is_left_out, joined, row_of, rows_of}
+use Rattle.sig_c_step.specs.Correct.{IsAbout, IsRowOf, cause_in_c}
+use Rattle.sig_c_step.specs.Translation.{block, blocks, causes_of, doing, ends_of, is_left_out, joined, name_in, row_of, rows_of, subject_of}
 use Rattle.sig_c_step.proofs.Guards.{always_holds, block_runs, guard_holds, guard_stays, never_holds}
 use Rattle.sig_c_step.proofs.Likeness.{IsLike}
 use Rattle.sig_c_step.proofs.Lists.{behind_all}
@@ -29,7 +33,7 @@ true_not_false {B} b one two = absurd (let e : true ≡ false = sym one ∙ two 
 
 module _ (image : ImageView) (right : IsImage image) (sound : IsSoundImage image) (widths : Place → Width) (are : AreWidths image widths) (call : HelperCalls)
     (may : (n : ℕ) (op : ImageOp) → slice_get image.ops n ≡ Some op → is_left_out op ≡ false → MayCall call op.kind) (before : Memory) where
-  -- A block has begun with these statements at one memory, and comes to another one, which is like the state.
+  -- A block has begun with these statements at one memory and leads to another one, which is like the state.
   record HasBegun (guard : ℕ) (body : Statements) (first : Memory) (s : State) (m : Memory) : Type 0 where
     on : Bool
     still : guard_holds image guard s ≡ on
@@ -261,17 +265,40 @@ module _ (image : ImageView) (right : IsImage image) (sound : IsSoundImage image
           let later = blocks image op.guard (doing image code op.kind) (code + length (causes_of op.kind)) ops in
           ap (λ (b : Statements). run call widths b first) (next_block guard body code op ops kept is) ∙ asks body later ∙ ap (λ (o : Outcome). and_then o (run call widths later)) returns
 
+  -- the signal of an operation that may end a run
+  signal_of_end : (kind : ImageOpKind) (place : ℕ) (told : EndCause) → MayDo (scope_of image) kind → slice_get (causes_of kind) place ≡ Some told
+      → IsAbout kind (subject_of kind) × (subject_of kind < length image.signals)
+  signal_of_end (does.Read x) place told can is = (refl, writes_within image right (does.Read x) can x refl)
+  signal_of_end (does.Fun y op operands) place told can is = (refl, writes_within image right (does.Fun y op operands) can y refl)
+  signal_of_end kind place told can is = none_is told is
+
   -- the row of an end of the first operation
-  row_told : (n code : ℕ) (op : ImageOp) (ops : List ImageOp) (place : ℕ) (told : EndCause) (because : ImageCause) → slice_get image.ops n ≡ Some op → is_left_out op ≡ false → RowsFrom code (op ∷ ops)
-      → slice_get (causes_of op.kind) place ≡ Some told → IsCauseOf op.kind op.at because told
+  row_told : (n code : ℕ) (op : ImageOp) (ops : List ImageOp) (s : State) (place : ℕ) (told : EndCause) (because : ImageCause) → slice_get image.ops n ≡ Some op → is_left_out op ≡ false → RowsFrom code (op ∷ ops)
+      → Ends op.kind op.at s because → slice_get (causes_of op.kind) place ≡ Some told → told ≡ cause_in_c because
       → (row : EndRow) × (slice_get (ends_of image) (code + place) ≡ Some row) × IsRowOf image row because
-  row_told n code op ops place told because at kept rows is tells = (
-    row_of image op told,
-    rows_here code op ops kept rows place
-        ∙ still_at (map (row_of image op) (causes_of op.kind)) (flat_map (rows_of image) ops) place (row_of image op told)
-        (slice_get-map (row_of image op) (causes_of op.kind) place ∙ ap (option_map (row_of image op)) is),
-    record { place = n; op = op; at = at; ends = tells; is = refl },
-  )
+  row_told n code op ops s place told because at kept rows ends is tells =
+      let (about, inside) = signal_of_end op.kind place told (operation_at image right n op at).kind is in
+      let (signal, there) = some_at image.signals (subject_of op.kind) inside in (
+        row_of image op told,
+        rows_here code op ops kept rows place
+            ∙ still_at (map (row_of image op) (causes_of op.kind)) (flat_map (rows_of image) ops) place (row_of image op told)
+            (slice_get-map (row_of image op) (causes_of op.kind) place ∙ ap (option_map (row_of image op)) is),
+        record {
+          place = n;
+          op = op;
+          at = at;
+          state = s;
+          ends = ends;
+          about = subject_of op.kind;
+          is_about = about;
+          signal = signal;
+          is_signal = there;
+          cause_is = tells;
+          line_is = refl;
+          column_is = refl;
+          name_is = ap name_in there;
+        },
+      )
 
   -- an operation that is done ends the run
   stops : (n code guard : ℕ) (body : Statements) (first : Memory) (s : State) (m : Memory) (op : ImageOp) (ops : List ImageOp) (because : ImageCause) → HasBegun guard body first s m
@@ -284,7 +311,7 @@ module _ (image : ImageView) (right : IsImage image) (sound : IsSoundImage image
     told_so : (kept : is_left_out op ≡ false) → (it : Returns image widths are call before s m begun.like begun.kinded code op.kind op.at because)
         → run call widths (blocks image guard body code (op ∷ ops)) first ≡ Returned it.number m → Refuses (blocks image guard body code (op ∷ ops)) first because
     told_so kept it returns =
-        let (row, is, tells) = row_told n code op ops it.place it.told because at kept rows it.is it.tells in
+        let (row, is, tells) = row_told n code op ops s it.place it.told because at kept rows ends it.is it.tells in
         record {
           number = it.number;
           after = m;

@@ -68,7 +68,7 @@ module _ (image : ImageView) (right : IsImage image) where
       like.signals x.0 (condition_within image right n x is)
       ∙ truth_of_value (seen_at s.registers x.0) (λ v there. register_kind image.signals s.registers x.0 Boolean v kinded.registers kind there)
 
-  -- a block goes on behind its statements where its guard is true, and else at once
+  -- a block does its statements if its guard is true, and then what follows
   module _ (widths : Place → Width) (call : HelperCalls) (before : Memory) (s : State) (m : Memory) (like : IsLike image before s m) (kinded : AreKinded image s) where
     asked_block : (guard : ℕ) (body after : Statements) (b : Bool) → guard_holds image guard s ≡ b
         → run call widths (more (When (guard_of image guard) body) after) m ≡ and_then (if b then run call widths body m else GoesOn m) (run call widths after)

@@ -1,4 +1,4 @@
--- Lists: what is behind a front, in a front and past it; and a test that some kept element passes.
+-- Lists: what is after a front, in a front and past it; and a test that some kept element passes.
 use Rattle.std.proofs.Common.{◌≡◌, ◌<◌, ◌+◌, ◌++◌, ◌||◌, ℕ, zero, suc, Bool, true, false, List, [], ◌∷◌, Some, None, refl, ap, ◌∙◌, arith, length, drop, take, slice_get, if◌then◌else◌}
 use Rattle.std.specs.Prelude.{filter}
 use Rattle.std.specs.List.{list_any}

@@ -19,7 +19,7 @@ use Rattle.sig_file.specs.declared.run.ImageCause.{ImageCause}
 use Rattle.sig_c.specs.SmallC.{Place, Variable, Number, Binary, Equal, Add, Subtract, Multiply, Quotient, Remainder, Set, When, Check, Return, Statements, none, more, Width, EndCause, Exhausted, Overflow, DivisionByZero}
 use Rattle.sig_c.specs.Meaning.{Memory, Outcome, Returned, HelperCalls, and_then, asked, run}
 use Rattle.sig_c.proofs.Quotients.{remainder_bits}
-use Rattle.sig_c_step.specs.Correct.{IsCauseOf}
+use Rattle.sig_c_step.specs.Correct.{cause_in_c}
 use Rattle.sig_c_step.specs.Translation.{asking, causes_of, computing, doing, function_causes, joined, marking, one, operand}
 use Rattle.sig_c_step.proofs.FunctionValues.{HaveBits, IsTruth, tells_truth, two_values}
 use Rattle.sig_c_step.proofs.StateKinds.{AreKinded, bits_of}
@@ -49,7 +49,7 @@ module _ (image : ImageView) (widths : Place → Width) (are : AreWidths image w
     pub counted : number ≡ code + place
     pub told : EndCause
     pub is : slice_get (causes_of kind) place ≡ Some told
-    pub tells : IsCauseOf kind at cause told
+    pub tells : told ≡ cause_in_c cause
 
   then_returns : (statements : Statements) (y number : ℕ) → run call widths statements m ≡ Returned number m → run call widths (joined statements (marking image y)) m ≡ Returned number m
   then_returns statements y number returns = run_then call widths statements (marking image y) m ∙ ap (λ (o : Outcome). and_then o (run call widths (marking image y))) returns
@@ -197,7 +197,7 @@ module _ (image : ImageView) (widths : Place → Width) (are : AreWidths image w
     counted = omega arith;
     told = Exhausted;
     is = refl;
-    tells = subst (λ (c : ImageCause). IsCauseOf (does.Read x) at c Exhausted) (sym e) (refl, refl);
+    tells = ap cause_in_c (sym e);
   }
   ends_is code (does.Fun y op operands) at because may calls (inl (v, (values, have, gives), large, e)) =
       let it = overflows y code values v large op operands may calls have gives in
@@ -208,7 +208,7 @@ module _ (image : ImageView) (widths : Place → Width) (are : AreWidths image w
         counted = it.counted;
         told = Overflow;
         is = it.is;
-        tells = subst (λ (c : ImageCause). IsCauseOf (does.Fun y op operands) at c Overflow) (sym e) (refl, refl);
+        tells = ap cause_in_c (sym e);
       }
   ends_is code (does.Fun y op operands) at because may calls (inr (values, have, zeroed, e)) =
       let it = divides_by_zero y code values op operands may have zeroed in
@@ -219,6 +219,6 @@ module _ (image : ImageView) (widths : Place → Width) (are : AreWidths image w
         counted = it.counted;
         told = DivisionByZero;
         is = it.is;
-        tells = subst (λ (c : ImageCause). IsCauseOf (does.Fun y op operands) at c DivisionByZero) (sym e) (refl, refl);
+        tells = ap cause_in_c (sym e);
       }
   ends_is code kind at because may calls ends = absurd ends

@@ -123,7 +123,7 @@ module _ (image : ImageView) (widths : Place → Width) (are : AreWidths image w
   just : (statement : Statement) (m after : Memory) → run_one call widths statement m ≡ GoesOn after → run call widths (one statement) m ≡ GoesOn after
   just statement m after goes = ap (λ (o : Outcome). and_then o (run call widths none)) goes
 
-  -- the statements lead to a memory that is like the state behind
+  -- the statements lead to a memory that is like the next state
   pub record Follows (statements : Statements) (t : State) (m : Memory) : Type 0 where
     pub after : Memory
     pub goes : run call widths statements m ≡ GoesOn after
@@ -223,7 +223,7 @@ module _ (image : ImageView) (widths : Place → Width) (are : AreWidths image w
     pub zero_is : (w : ℤ) → w ≡ pos 0 → int_same w (pos 0) ≡ true
     zero_is w zero_too = ap (λ (z : ℤ). int_same z (pos 0)) zero_too
 
-    -- behind the test of a divisor that is not 0
+    -- after the test of a divisor that is not 0
     pub divides : (b : Operand) (w : ℤ) (code : ℕ) (rest : Statements) → value widths (operand b) m ≡ Some w → w ≢ pos 0
         → run call widths (more (When (Binary Equal (operand b) (Number (pos 0))) (one (Return code))) rest) m ≡ run call widths rest m
     divides b w code rest has apart = ap (λ (o : Outcome). and_then o (run call widths rest)) (divisor_is b w code false has (apart_is w apart))

@@ -1,4 +1,4 @@
--- Calls of a step come to what the run of the image comes to.
+-- Calls of a step do what the run of the image does.
 use Rattle.std.proofs.Common.{◌≡◌, inl, inr, ◌++◌, ℕ, zero, suc, ℤ, pos, List, [], Some, refl, sym, ap, subst, ◌∙◌, arith, length, map, slice_get, append_assoc, append-nil, flat_map}
 use Rattle.std.proofs.lemmas.Grind.{flat_map-append}
 use Rattle.std.proofs.lemmas.List.{length-map}
@@ -7,44 +7,51 @@ use Rattle.std.proofs.lemmas.Option.{slice_get-get_or}
 use Rattle.sig_base.specs.Traces.{Trace}
 use Rattle.sig_base.specs.declared.span.Span.{Span}
 use Rattle.sig_file.specs.Guarded.{IsSoundImage, guards_of}
-use Rattle.sig_file.specs.ImageRuns.{State, IsImageRun, Runs, instant_lines, opening}
+use Rattle.sig_file.specs.ImageRuns.{State, Ends, IsImageRun, Runs, instant_lines, opening}
 use Rattle.sig_file.specs.Images.{ImageView, IsImage}
 use Rattle.sig_file.specs.declared.images.ImageMemory.{ImageMemory}
 use Rattle.sig_file.specs.declared.images.ImageOpKind.{ImageOpKind}
+use Rattle.sig_file.specs.declared.images.ImageOpKind.TheVariants as does
 use Rattle.sig_file.specs.declared.run.ImageCause.{ImageCause}
 use Rattle.sig_file.specs.declared.run.ImageCause.TheVariants as cause
 use Rattle.sig_file.specs.declared.run.ImageEnd.{ImageEnd}
 use Rattle.sig_exec.specs.Running.{AreFlowsOf}
 use Rattle.sig_exec.proofs.KeptKinds.{same_Some}
+use Rattle.sig_c.specs.SmallC as c
 use Rattle.sig_c.specs.SmallC.{EndCause, Done, EndRow, Header, TranslationUnit}
 use Rattle.sig_c.specs.Meaning.{Memory, Outcome, Returned}
 use Rattle.sig_c.specs.Calls.{Called, Answered, Limit, begun, calls, go_on, one_more, step_of}
-use Rattle.sig_c_step.specs.Correct.{ComesToInC, EndsInC, IsCauseOf, IsRowOf, Refuses, given_line}
+use Rattle.sig_c_step.specs.Correct.{ComesToInC, EndsInC, IsRowOf, Refuses, cause_in_c, given_line}
 use Rattle.sig_c_step.specs.Names.{AreNames, Names}
-use Rattle.sig_c_step.specs.Translation.{ends_of, header_of, outputs_in, unit_of}
+use Rattle.sig_c_step.specs.Translation.{done_row, ends_of, header_of, outputs_in, unit_of}
 use Rattle.sig_c_step.proofs.Endings.{given_from}
 use Rattle.sig_c_step.proofs.StateKinds.{begun_kinded}
 use Rattle.sig_c_step.proofs.Steps.{IsReady, commits, declines}
 
 -- ---- numbers of ends
 
-not_done : {B : Type 0} (kind : ImageOpKind) (at : Span) (because : ImageCause) → IsCauseOf kind at because Done → B
-not_done {B} kind at (cause.Exhausted x) (is, e) = absurd (let f : Done ≡ Rattle.sig_c.specs.SmallC.Exhausted = e in cc f)
-not_done {B} kind at (cause.Overflow place) (is, e) = absurd (let f : Done ≡ Rattle.sig_c.specs.SmallC.Overflow = e in cc f)
-not_done {B} kind at (cause.ZeroDivisor place) (is, e) = absurd (let f : Done ≡ Rattle.sig_c.specs.SmallC.DivisionByZero = e in cc f)
-not_done {B} kind at cause.Limit none = absurd none
+-- no operation ends a run by the limit
+no_limit : (kind : ImageOpKind) (at : Span) (s : State) → Ends kind at s cause.Limit → ⊥
+no_limit (does.Read x) at s (is, e) = let f : cause.Limit ≡ cause.Exhausted x = e in cc f
+no_limit (does.Fun y op operands) at s (inl (v, computes, large, e)) = let f : cause.Limit ≡ cause.Overflow at = e in cc f
+no_limit (does.Fun y op operands) at s (inr (values, have, zeroed, e)) = let f : cause.Limit ≡ cause.ZeroDivisor at = e in cc f
+no_limit kind at s ends = absurd ends
+
+not_done : {B : Type 0} (kind : ImageOpKind) (at : Span) (s : State) (because : ImageCause) → Ends kind at s because → Done ≡ cause_in_c because → B
+not_done {B} kind at s (cause.Exhausted x) ends e = absurd (let f : Done ≡ c.Exhausted = e in cc f)
+not_done {B} kind at s (cause.Overflow place) ends e = absurd (let f : Done ≡ c.Overflow = e in cc f)
+not_done {B} kind at s (cause.ZeroDivisor place) ends e = absurd (let f : Done ≡ c.DivisionByZero = e in cc f)
+not_done {B} kind at s cause.Limit ends e = absurd (no_limit kind at s ends)
 
 -- the number of an end is not 0
 answers : (image : ImageView) (number : ℕ) (after : Memory) (go : Memory → Called) (row : EndRow) (because : ImageCause) → slice_get (ends_of image) number ≡ Some row → IsRowOf image row because
     → go_on (Returned number after) go ≡ Answered 0 number after
-answers image zero after go row because at tells =
-    let same = same_Some _ row at in
-    not_done tells.op.kind tells.op.at because (subst (λ (r : EndRow). IsCauseOf tells.op.kind tells.op.at because r.cause) (sym same) tells.ends)
+answers image zero after go row because at tells = not_done tells.op.kind tells.op.at tells.state because tells.ends (ap (λ (r : EndRow). r.cause) (same_Some done_row row at) ∙ tells.cause_is)
 answers image (suc number) after go row because at tells = refl
 
 -- an end that is no limit is a refusal
 refused : (unit : TranslationUnit) (image : ImageView) (before : Memory) (because : ImageCause) (came : Called) (instants : ℕ) → Refuses unit image before because came instants → EndsInC unit image before because came instants
-refused unit image before cause.Limit came instants it = absurd (it.tells.ends)
+refused unit image before cause.Limit came instants it = absurd (no_limit it.tells.op.kind it.tells.op.at it.tells.state it.tells.ends)
 refused unit image before (cause.Exhausted x) came instants it = it
 refused unit image before (cause.Overflow at) came instants it = it
 refused unit image before (cause.ZeroDivisor at) came instants it = it

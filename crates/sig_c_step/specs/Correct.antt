@@ -1,8 +1,8 @@
--- What calls of a step come to, said of a run of an image.
+-- What calls of a step do, compared with a run of an image.
 use Rattle.std.specs.Prelude.{◌≡◌, ◌+◌, ℕ, ℤ, List, [], slice_get, Option, None, Some}
 use Rattle.std.specs.List.{flat_map}
-use Rattle.sig_base.specs.declared.span.Span.{Span}
 use Rattle.sig_kernel.specs.OutputText.{line_of}
+use Rattle.sig_file.specs.ImageRuns.{Ends, State}
 use Rattle.sig_file.specs.Images.{ImageView}
 use Rattle.sig_file.specs.declared.images.ImageOp.{ImageOp}
 use Rattle.sig_file.specs.declared.images.ImageOpKind.{ImageOpKind}
@@ -16,7 +16,6 @@ use Rattle.sig_c.specs.SmallC.{Field, Header, EndCause, EndRow, TranslationUnit}
 use Rattle.sig_c.specs.Meaning.{Memory}
 use Rattle.sig_c.specs.Calls as called
 use Rattle.sig_c.specs.Calls.{Called, Answered, calls, begun, step_of}
-use Rattle.sig_c_step.specs.Translation.{row_of}
 
 -- ---- the outputs
 
@@ -30,23 +29,38 @@ given_line image (output, v) = line_in (slice_get image.signals (image.inputs + 
 
 -- ---- the end
 
--- a cause of the end of a run is that of an operation of this kind at this place, and is told so in C
-abbrev pub IsCauseOf : ImageOpKind → Span → ImageCause → EndCause → Type 0
-IsCauseOf kind place (Exhausted x) told = (kind ≡ does.Read x) × (told ≡ c.Exhausted)
-IsCauseOf kind place (Overflow at) told = (place ≡ at) × (told ≡ c.Overflow)
-IsCauseOf kind place (ZeroDivisor at) told = (place ≡ at) × (told ≡ c.DivisionByZero)
-IsCauseOf kind place Limit told = ⊥
+-- what C calls a cause
+abbrev pub cause_in_c : ImageCause → EndCause
+cause_in_c (Exhausted x) = c.Exhausted
+cause_in_c (Overflow at) = c.Overflow
+cause_in_c (ZeroDivisor at) = c.DivisionByZero
+cause_in_c Limit = c.Done
 
--- A row of P_ends tells the cause of an end: it is that of an operation, with its place and the name of its signal.
+-- the signal that an operation reads, or that it gives the value of a function
+abbrev pub IsAbout : ImageOpKind → ℕ → Type 0
+IsAbout (does.Read x) signal = signal ≡ x.0
+IsAbout (does.Fun y op operands) signal = signal ≡ y.0
+IsAbout other signal = ⊥
+
+-- A row of P_ends is that of a cause: in some state an operation ends a run by this cause, and the row has the place of that operation and
+-- the name of its signal.
 pub record IsRowOf (image : ImageView) (row : EndRow) (cause : ImageCause) : Type 0 where
   pub place : ℕ
   pub op : ImageOp
   pub at : slice_get image.ops place ≡ Some op
-  pub ends : IsCauseOf op.kind op.at cause row.cause
-  pub is : row ≡ row_of image op row.cause
+  pub state : State
+  pub ends : Ends op.kind op.at state cause
+  pub about : ℕ
+  pub is_about : IsAbout op.kind about
+  pub signal : ImageSignal
+  pub is_signal : slice_get image.signals about ≡ Some signal
+  pub cause_is : row.cause ≡ cause_in_c cause
+  pub line_is : row.line ≡ op.at.line
+  pub column_is : row.column ≡ op.at.col
+  pub name_is : row.name ≡ signal.name
 
--- The call after those that are answered 0 is answered the number of the row of a cause. It leaves the fields of the state, and has given no
--- output.
+-- The call after those that answer 0 answers the number of the row of the cause. It leaves each field of the state as it was, and gives
+-- no output.
 pub record Refuses (unit : TranslationUnit) (image : ImageView) (before : Memory) (cause : ImageCause) (came : Called) (instants : ℕ) : Type 0 where
   pub code : ℕ
   pub after : Memory
@@ -57,16 +71,16 @@ pub record Refuses (unit : TranslationUnit) (image : ImageView) (before : Memory
   pub fields : (n : ℕ) → after.values (Field n) ≡ before.values (Field n)
   pub outputs : after.given ≡ before.given
 
--- why there are no further calls that are answered 0: the limit is reached, or one is refused
+-- why no further call answers 0: the limit is reached, or the next call refuses
 abbrev pub EndsInC : TranslationUnit → ImageView → Memory → ImageCause → Called → (instants : ℕ) → Type 0
 EndsInC unit image before Limit came instants = came ≡ called.Limit before
 EndsInC unit image before cause came instants = Refuses unit image before cause came instants
 
--- Calls of a step, up to a limit, where the functions of the inputs will give these flows, come to what a run of the image comes to: as
--- many of them are answered 0 as there are instants, the functions of the outputs were given the values whose lines the text has, and the
--- end is told.
+-- Calls of a step, up to a limit, where the functions of the inputs give these flows, do what a run of the image does, which has this
+-- text and this end. As many calls answer 0 as the run has instants. The functions of the outputs are given the values whose lines make
+-- the text. Then the limit is reached, or a call answers the number of the cause.
 pub record ComesToInC (header : Header) (unit : TranslationUnit) (image : ImageView) (flows : List (List ℤ)) (limit : ℕ) (text : List ℕ) (end : ImageEnd) : Type 0 where
-  -- what is behind the calls that are answered 0
+  -- the memory after the calls that answer 0
   pub before : Memory
   pub done : calls end.instants (step_of header unit) (begun unit flows) ≡ called.Limit before
   pub lines : text ≡ flat_map (given_line image) before.given

@@ -116,7 +116,7 @@ abbrev pub is_one_signal : Operand → Operand → Bool
 is_one_signal (Sig x) (Sig y) = nat_eq x.0 y.0
 is_one_signal a b = false
 
--- a comparison; that of a signal with itself is known
+-- a comparison; of a signal with itself the result is known
 abbrev pub compared : Operator → (same : Bool) → (a b : Operand) → Expression
 compared operator same a b = if is_one_signal a b then Number (truth same) else Binary operator (operand a) (operand b)
 

@@ -14,7 +14,7 @@ ghost use Rattle.sig_c_step.specs.Correct.{ComesToInC};
 ghost use Rattle.sig_c_step.specs.Names.{AreNames, Names};
 ghost use Rattle.sig_c_step.specs.Translation.{ends_of, header_of, step_in, unit_of, variables_of};
 
-/// A law: calls of the step of a right and sound image, with whatever names, come to what the run of the image comes to, over flows
+/// A law: calls of the step of a right and sound image, with whatever names, do what the run of the image does, over flows
 /// that fit and for whatever limit. Nothing that they do is undefined in C.
 pub fn steps_run_as_images()
     ensures { (image : ImageView) (names : Names) → IsImage image → IsSoundImage image → AreNames image names → (flows : List (List ℤ)) → AreFlowsOf image flows
@@ -22,7 +22,7 @@ pub fn steps_run_as_images()
         → ComesToInC (header_of image names) (unit_of image names) image flows limit text end }
 {}
 
-/// A law: where the names are told apart in C and free, the file of a right image may be written.
+/// A law: if C tells the names apart and none is reserved, the file of a right image may be written.
 pub fn steps_may_be_written()
     ensures { (image : ImageView) (names : Names) → IsImage image → AreNames image names → AreFree (scope_of (header_of image names) (variables_of image names))
         → IsUnit (header_of image names) (unit_of image names) }

@@ -17,7 +17,7 @@ keeps_room given capacity s u k x begins same room output reader input link =
     let had = room output reader input link in
     omega (arith, gives, took, had)
 
-within_on : (given : Given) (capacity : Capacity) (r s t : State) → IsReachedFromWithin given capacity r s → IsReachedFromWithin given capacity s t → IsReachedFromWithin given capacity r t
+pub within_on : (given : Given) (capacity : Capacity) (r s t : State) → IsReachedFromWithin given capacity r s → IsReachedFromWithin given capacity s t → IsReachedFromWithin given capacity r t
 within_on given capacity r s t reached bounded.stays = reached
 within_on given capacity r s t reached (bounded.goes_on u k x before event room) = bounded.goes_on u k x (within_on given capacity r s u reached before) event room
 

@@ -11,8 +11,20 @@ few_instants given s systems.stays k = omega arith
 few_instants given t (systems.goes_on s k x before event) j =
     at_each s k x (λ n trace. length trace ≤ given.limit n) (let w = event.within in omega (arith, w, length-append (s k) (x ∷ []))) (few_instants given s before) j
 
+-- some number below a bound, or none
+pub some_below : (P : ℕ → Type 0) → ((k : ℕ) → P k ⊎ (P k → ⊥)) → (n : ℕ) → ((k : ℕ) × P k) ⊎ ((k : ℕ) → k < n → P k → ⊥)
+some_below P decide zero = inr (λ k lt holds. omega (arith, lt))
+some_below P decide (suc n) = by (some_below P decide n) (decide n) where
+  by : ((k : ℕ) × P k) ⊎ ((k : ℕ) → k < n → P k → ⊥) → P n ⊎ (P n → ⊥) → ((k : ℕ) × P k) ⊎ ((k : ℕ) → k < suc n → P k → ⊥)
+  by (inl found) last = inl found
+  by (inr none) (inl holds) = inl (n, holds)
+  by (inr none) (inr fails) = inr (λ k lt holds. elim (cases_eq k n) [
+    | inl same ↦ fails (subst P same holds)
+    | inr apart ↦ none k (omega (arith, lt, apart)) holds
+  ])
+
 -- how many instants the first programs may still commit
-abbrev left : Given → State → ℕ → ℕ
+abbrev pub left : Given → State → ℕ → ℕ
 left given s zero = 0
 left given s (suc n) = left given s n + (given.limit n - length (s n))
 
@@ -24,7 +36,7 @@ module _ (given : Given) (s : State) (k : ℕ) (x : Instant) where
       let here : length (committed s k x n) ≡ length (s n) = ap (λ (t : Trace). length t) (at_other s k x n (λ e. omega (arith, le, e))) in
       omega (arith, rest, here)
 
-  left_fewer : (n : ℕ) → k < n → length (s k) < given.limit k → left given (committed s k x) n + 1 ≡ left given s n
+  pub left_fewer : (n : ℕ) → k < n → length (s k) < given.limit k → left given (committed s k x) n + 1 ≡ left given s n
   left_fewer zero lt room = absurd (omega (arith, lt))
   left_fewer (suc n) lt room = elim (cases_eq n k) [
     | inl same ↦
@@ -41,7 +53,7 @@ module _ (given : Given) (s : State) (k : ℕ) (x : Instant) where
 
 module _ (given : Given) (accepted : AreAccepted given.system) (joined : AreJoined given) where
   module _ (s : State) (reached : IsReached given s) where
-    abbrev GoesOn : ℕ → Type 0
+    abbrev pub GoesOn : ℕ → Type 0
     GoesOn k = (x : Instant) × IsEnabled given s k x
 
     module _ (k : ℕ) (kernel : Kernel) (is : slice_get given.system.programs k ≡ Some kernel) where
@@ -97,25 +109,14 @@ module _ (given : Given) (accepted : AreAccepted given.system) (joined : AreJoin
           let end = some_kernel_end kernel good.0 good.1 flows (links_fit given accepted joined s reached k kernel is) (given.limit k) in
           by_longest end.0 end.3.longest
 
-    decided : (k : ℕ) → GoesOn k ⊎ (GoesOn k → ⊥)
+    pub decided : (k : ℕ) → GoesOn k ⊎ (GoesOn k → ⊥)
     decided k = by (slice_get given.system.programs k) refl where
       by : (found : Option Kernel) → slice_get given.system.programs k ≡ found → GoesOn k ⊎ (GoesOn k → ⊥)
       by None none = inr (λ next. let e : Some next.1.kernel ≡ None = sym next.1.program ∙ none in cc)
       by (Some kernel) is = one_decided k kernel is
 
-    some_below : (n : ℕ) → ((k : ℕ) × GoesOn k) ⊎ ((k : ℕ) → k < n → GoesOn k → ⊥)
-    some_below zero = inr (λ k lt next. omega (arith, lt))
-    some_below (suc n) = by (some_below n) (decided n) where
-      by : ((k : ℕ) × GoesOn k) ⊎ ((k : ℕ) → k < n → GoesOn k → ⊥) → GoesOn n ⊎ (GoesOn n → ⊥) → ((k : ℕ) × GoesOn k) ⊎ ((k : ℕ) → k < suc n → GoesOn k → ⊥)
-      by (inl found) last = inl found
-      by (inr none) (inl next) = inl (n, next)
-      by (inr none) (inr fails) = inr (λ k lt next. elim (cases_eq k n) [
-        | inl same ↦ fails (subst GoesOn same next)
-        | inr apart ↦ none k (omega (arith, lt, apart)) next
-      ])
-
     pub final_or_event : IsFinal given s ⊎ ((k : ℕ) × (x : Instant) × IsEnabled given s k x)
-    final_or_event = elim (some_below (length given.system.programs)) [
+    final_or_event = elim (some_below GoesOn decided (length given.system.programs)) [
       | inl found ↦ inr (found.0, found.1.0, found.1.1)
       | inr none ↦ inl (λ k x event. none k (slice_get_within given.system.programs k event.kernel event.program) (x, event))
     ]

@@ -20,6 +20,7 @@ pub use Rattle.sig_plan.specs.declared.ended.Cause.{Cause}
 pub use Rattle.sig_plan.specs.declared.ended.Cause.TheVariants.{Limit}
 pub use Rattle.sig_model.specs.Causes.{HasFault}
 pub use Rattle.sig_meaning_laws.specs.Reactions.{IsNext, TakesNext}
+pub use Rattle.sig_meaning_laws.proofs.Numbers.{at_most_or}
 pub use Rattle.sig_meaning_laws.proofs.References.{count_inputs, speaks_last, speaks_more, taken_at}
 pub use Rattle.sig_meaning_laws.proofs.Results.{within_bounds}
 pub use Rattle.sig_deciding_laws.proofs.KernelRuns.{kernel_end_at_first, one_at_most, some_kernel_end}

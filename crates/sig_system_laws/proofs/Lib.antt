@@ -12,6 +12,7 @@ pub mod CarriedValues
 pub mod Runs
 pub mod Starved
 pub mod ComesToAnEnd
+pub mod StandsStill
 unfoldable pub use Common.*
 pub use BoundedJoin.*
 pub use Bounds.*
@@ -22,4 +23,5 @@ pub use LongerFlows.*
 pub use CarriedValues.*
 pub use ComesToAnEnd.*
 pub use Runs.*
+pub use StandsStill.*
 pub use Starved.*

@@ -99,3 +99,11 @@ pub fn systems_come_to_a_final_state()
     ensures last { (given : Given) → AreAccepted given.system → AreJoined given → (s : State) → IsReached given s
         → (t : State) × IsReachedFrom given s t × IsFinal given t }
 {}
+
+/// A law: over links with bounds, too, from each state some more events, each with room, lead to a state in which the
+/// programs stand still.
+pub fn bounded_systems_come_to_stand_still()
+    ensures { (given : Given) → AreAccepted given.system → AreJoined given → (capacity : Capacity) (s : State)
+        → IsReachedWithin given capacity s
+        → (t : State) × IsReachedFromWithin given capacity s t × IsStill given capacity t }
+{}
