@@ -1,0 +1,1 @@
+"""Programs as C, a step for each cluster, with carriers between them."""
