@@ -8,6 +8,7 @@ from unittest import mock
 
 from calling import EXAMPLES, SIGC, TUTORIAL, needs_sigc, pairs, ran, sigc, written
 from helping import only_with
+from edges import Edge
 from programs import Program
 
 import compiled
@@ -15,6 +16,7 @@ from sigc.c import c_files, c_names, expressions, step_text
 from sigc.image import sources
 
 needs_gcc = only_with(shutil.which("gcc"), "gcc is not installed: the tests of sigc-c that compile are left out")
+needs_tcc = only_with(shutil.which("tcc"), "tcc is not installed: the test of sigc-c with it is left out")
 needs_clang = only_with(shutil.which("clang"), "clang is not installed: the test of sigc-c with it is left out")
 COUNT = int(os.environ.get("SIGC_C_PROGRAMS", "40"))
 LIMIT = 40
@@ -41,7 +43,20 @@ SPECIAL = {
         " | J := B /= false | K := B and true | L := B xor E | M := (3 <= A) = (A >= 3) | A ^= B ^= E |);",
         ["A 3 -9223372036854775808 9223372036854775807\nB true false true\nE true true true"],
     ),
+    "relations": (
+        "process P = (? integer A, B ! boolean C, D, E, F, G, H, I, J, K) (| C := A < B | D := A <= B | E := A > B | F := A >= B | G := A = B | H := A /= B\n"
+        " | I := A <= A | J := A >= A | K := A > A |);",
+        ["A 1 2 3 -9223372036854775808 9223372036854775807\nB 2 2 2 9223372036854775807 -9223372036854775808"],
+    ),
     "signs": ("process P = (? integer A ! integer Y, Z) (| Y := - A | Z := - - - A - -5 |);", ["A 1 -2 -9223372036854775808", "A 9223372036854775807"]),
+    "sums": (
+        "process P = (? integer A, B ! integer Y) Y := A + B;",
+        ["A 9223372036854775806 -9223372036854775807 -9223372036854775808 0 9223372036854775807\nB 1 -1 9223372036854775807 -9223372036854775808 1", "A -9223372036854775808\nB -1"],
+    ),
+    "differences": (
+        "process P = (? integer A, B ! integer Y) Y := A - B;",
+        ["A 9223372036854775806 -9223372036854775807 -1 9223372036854775807 0\nB -1 1 -9223372036854775808 0 -9223372036854775808", "A -9223372036854775808\nB 1", "A -2\nB 9223372036854775807"],
+    ),
     "products": (
         "process P = (? integer A, B ! integer Y) Y := A * B;",
         ["A 3 -3 3037000500\nB 7 -7 3037000500", "A -9223372036854775808\nB -1", "A -1 0\nB -9223372036854775808 5", "A 4611686018427387904 -4611686018427387904 4611686018427387904\nB -2 2 2"],
@@ -54,6 +69,24 @@ SPECIAL = {
         "(| main := int + state | r_NAMES_int := context + INT64_MAX | linux := int64_t - NAMES_step | errno := value * add | a := linux / errno\n"
         " | int ^= state ^= context ^= INT64_MAX ^= int64_t ^= NAMES_step ^= value ^= add |);",
         ["int 1\nstate 2\ncontext 3\nINT64_MAX 4\nint64_t 5\nNAMES_step 6\nvalue 7\nadd 8"],
+    ),
+    "remainder by what may be -1 and not 0": (
+        "process P = (? integer A, B ! integer Y, Z) (| N := B < 0 | Y := (A when N) modulo (B when N) | Z := ((A when N) modulo (B when N)) + 1 | A ^= B |)\n"
+        "where boolean N; end;",
+        ["A -9223372036854775808 7 -9223372036854775808 -7\nB -1 -1 -2 3"],
+    ),
+    "choice of what is alike": ("process P = (? integer A ! integer Y) (| S := A > 0 | Y := (A when S) default A |) where boolean S; end;", ["A 1 -1 0"]),
+    "always too large": (
+        "process P = (? boolean B ! integer Y, Z, T, U, V) (| X := (2 when B) default (3 when not B) | Y := X * 9223372036854775807 | Z := Y when B | T := Z default X\n"
+        " | U := Y modulo 3 | V := Y modulo X |)\n"
+        "where integer X; end;",
+        ["B true", "B false", ""],
+    ),
+    "names of a step": (
+        "process P = (? integer a, b, result; boolean divide, subtract ! integer Y, Y_comes, next_Z; boolean P_step)\n"
+        "(| Y := a / b | Y_comes := result modulo b | Z := (Z $ init 1) + Y | next_Z := Z when divide | P_step := divide and not subtract\n"
+        " | a ^= b ^= result ^= divide ^= subtract |) where integer Z; end;",
+        ["a 7 -7 5\nb 2 2 0\nresult 5 5 5\ndivide true false true\nsubtract false true true"],
     ),
     "trigraphs": ("process P = (? integer A ! integer Y) Y := A + 1; % what??/ \n *" + "/ and /" + "* \xe9 %", ["A 1"]),
 }
@@ -76,11 +109,11 @@ def wanted(text, flows, limit):
     return done.stdout + done.stderr
 
 
-def drawn(count, first=0):
+def drawn(count, first=0, kind=Program):
     """Programs drawn at random that are accepted, each with the texts of three flows."""
     found, seed = [], first
     while len(found) < count:
-        program = Program(seed)
+        program = kind(seed)
         text, seed = program.text(), seed + 1
         image = built(text)
         if image is not None:
@@ -100,9 +133,9 @@ class Compared:
         self.rows = rows
         self.wanted = [(at, flows, wanted(text, flows, LIMIT)) for at, (text, _, all_flows) in enumerate(rows) for flows in all_flows]
 
-    def differences(self, folder, bounds=None, **how):
+    def differences(self, folder, bounds=None, is_literal=False, **how):
         """The runs that differ, or what a compiler says."""
-        units = [compiled.unit_of(image, text, f"p{at}", bounds) for at, (text, image, _) in enumerate(self.rows)]
+        units = [compiled.unit_of(image, text, f"p{at}", bounds, is_literal) for at, (text, image, _) in enumerate(self.rows)]
         many = compiled.Many(folder, units, **how)
         if many.failed.returncode:
             return [many.failed.stderr]
@@ -115,32 +148,35 @@ class Compared:
 @needs_sigc
 @needs_gcc
 class Runs(unittest.TestCase):
+    """Steps of the short writer. Those of the literal one stand the same tests, but for narrow types."""
+
+    is_literal = False
+
     def setUp(self):
         room = tempfile.TemporaryDirectory()
         self.addCleanup(room.cleanup)
         self.room = room.name
 
+    def same(self, rows, folder="", **how):
+        """Whether C says of rows what sigc does."""
+        self.assertEqual(Compared(rows).differences(f"{self.room}{folder}", is_literal=self.is_literal, **how), [])
+
     def test_programs_of_every_kind(self):
-        self.assertEqual(Compared(special()).differences(self.room), [])
+        self.same(special())
 
     def test_drawn_programs(self):
-        self.assertEqual(Compared(drawn(COUNT)).differences(self.room), [])
+        self.same(drawn(COUNT))
 
-    def test_narrow_types(self):
-        """The flows of drawn programs have values from -20 to 20; those of the others any."""
-        self.assertEqual(Compared(drawn(COUNT // 2, 2000)).differences(f"{self.room}/drawn", bounds=(-20, 20)), [])
-        self.assertEqual(Compared(special()).differences(f"{self.room}/special", bounds=()), [])
+    def test_programs_at_the_ends_of_64_bits(self):
+        self.same(drawn(COUNT // 2, 3000, Edge))
 
     @needs_clang
     def test_clang(self):
-        rows = Compared([*special(), *drawn(6, 1000)])
-        how = {"compiler": ("clang", "-O1"), "flags": compiled.STRICT}
-        self.assertEqual(rows.differences(f"{self.room}/wide", **how), [])
-        self.assertEqual(Compared(rows.rows[-6:]).differences(f"{self.room}/narrow", bounds=(-20, 20), **how), [])
+        self.same([*special(), *drawn(6, 1000)], compiler=("clang", "-O1"), flags=compiled.STRICT)
 
-    def test_no_builtins_of_a_compiler(self):
-        with mock.patch.dict(c_files.HELPERS, {name: (result, test, "") for name, (result, test, _) in c_files.HELPERS.items()}):
-            self.assertEqual(Compared(special()).differences(self.room), [])
+    @needs_tcc
+    def test_tcc(self):
+        self.same([*special(), *drawn(6, 1000)], compiler=("tcc",), flags=compiled.STRICT)
 
     def test_examples(self):
         rows = []
@@ -150,7 +186,44 @@ class Runs(unittest.TestCase):
                 rows.append((text, built(text), [values.read()]))
         rows = [it for it in rows if it[1] is not None]
         self.assertGreaterEqual(len(rows), 20)
-        self.assertEqual(Compared(rows).differences(self.room), [])
+        self.same(rows)
+
+
+class LiteralRuns(Runs):
+    is_literal = True
+
+    def test_levels(self):
+        rows = special()
+        for compiler in filter(shutil.which, ("gcc", "clang")):
+            for level in ("-O0", "-O2"):
+                with self.subTest(f"{compiler} {level}"):
+                    self.same(rows, f"/{compiler}{level}", compiler=(compiler, level), flags=compiled.STRICT)
+
+
+@needs_sigc
+@needs_gcc
+class ShortRuns(unittest.TestCase):
+    """What the short writer alone has: narrow types, and the builtins of a compiler."""
+
+    def setUp(self):
+        room = tempfile.TemporaryDirectory()
+        self.addCleanup(room.cleanup)
+        self.room = room.name
+
+    def test_narrow_types(self):
+        """The flows of drawn programs have values from -20 to 20; those of the others any."""
+        self.assertEqual(Compared(drawn(COUNT // 2, 2000)).differences(f"{self.room}/drawn", bounds=(-20, 20)), [])
+        self.assertEqual(Compared(special()).differences(f"{self.room}/special", bounds=()), [])
+        self.assertEqual(Compared(drawn(COUNT // 4, 3000, Edge)).differences(f"{self.room}/edges", bounds=()), [])
+
+    @needs_clang
+    def test_narrow_types_by_clang(self):
+        rows = Compared(drawn(6, 1000))
+        self.assertEqual(rows.differences(self.room, bounds=(-20, 20), compiler=("clang", "-O1"), flags=compiled.STRICT), [])
+
+    def test_no_builtins_of_a_compiler(self):
+        with mock.patch.dict(c_files.HELPERS, {name: (result, test, "") for name, (result, test, _) in c_files.HELPERS.items()}):
+            self.assertEqual(Compared(special()).differences(self.room), [])
 
 
 # Faults planted in the writer: what stands there, and what stands there then.
@@ -222,10 +295,10 @@ int main(void)
 """
 
 
-@needs_sigc
-@needs_gcc
-class Written(unittest.TestCase):
-    """What sigc-c writes, with its main."""
+class Making:
+    """Programs that sigc-c writes, made with their mains."""
+
+    writer = ()
 
     def setUp(self):
         room = tempfile.TemporaryDirectory()
@@ -236,7 +309,7 @@ class Written(unittest.TestCase):
         """The program that runs it, compiled with all warnings, as errors, and the sanitizers."""
         folder = f"{self.room}/c"
         shutil.rmtree(folder, ignore_errors=True)
-        done = ran("sigc-c", program, "-o", folder, *words)
+        done = ran("sigc-c", program, "-o", folder, *self.writer, *words)
         self.assertEqual((done.stdout, done.stderr, done.returncode), ("", "", 0))
         files = sorted(f"{folder}/{it}" for it in os.listdir(folder) if it.endswith(".c"))
         done = subprocess.run(["gcc", *flags, *compiled.STRICT, "-I", folder, "-o", f"{self.room}/it", *files], capture_output=True, text=True)
@@ -251,6 +324,12 @@ class Written(unittest.TestCase):
         with mock.patch("os.getcwd", lambda: self.room):
             done = subprocess.run([SIGC, "run", program, "--workers", "0", *words], capture_output=True, text=True, encoding="latin-1", cwd=self.room)
         self.assertEqual(self.said(made, *words), (done.stdout, done.stderr, done.returncode))
+
+
+@needs_sigc
+@needs_gcc
+class Written(Making, unittest.TestCase):
+    """What sigc-c writes, with its main."""
 
     def test_runs_of_files(self):
         made = self.made(f"{EXAMPLES}/watch.sig")
@@ -271,23 +350,12 @@ class Written(unittest.TestCase):
 
     def test_names_of_headers(self):
         text, (flows,) = SPECIAL["names"]
-        for name in ("main", "string", "stdint", "NAMES", "int"):
+        for name in ("main", "math", "string", "stdint", "NAMES", "int"):
             program = written(self.room, "p.sig", text.replace("process NAMES", f"process {name}"))
             self.as_sigc(self.made(program, flags=["-O0"]), program, os.path.basename(written(self.room, "p.flows", flows)))
         self.assertEqual(sorted(os.listdir(f"{self.room}/c")), ["int.c", "int.h", "main.c"])
-        self.made(program, "--prefix", "string", flags=["-O0"])
-        self.assertEqual(sorted(os.listdir(f"{self.room}/c")), ["main.c", "string_process.c", "string_process.h"])
-
-    def test_values_outside_of_a_range(self):
-        made = self.made(f"{EXAMPLES}/thermostat.sig", "--range", "TEMPERATURE=-5..300")
-        flows = written(self.room, "p.flows", "TEMPERATURE -5 300 301")
-        self.assertEqual(self.said(made, flows), ("HEATING true\nHEATING false\n", "end: input TEMPERATURE out of range after 2 instants\n", 3))
-        self.assertEqual(self.said(made, written(self.room, "p.flows", "TEMPERATURE 65536")), ("", "end: input TEMPERATURE out of range after 0 instants\n", 3))
-        told = "TEMPERATURE: this is outside of its range\n"
-        self.assertEqual(self.said(made, "--live", given="-6\n-5\n301\n300\n"), ("HEATING true\nHEATING false\n", f"{told}{told}end: no line after 2 instants\n", 0))
-        asked = "TEMPERATURE? an integer from -5 to 300 is wanted\n"
-        said = self.said(made, "--live=values", given="-6\nx\n-5\n300")
-        self.assertEqual(said, ("HEATING true\nHEATING false\n", f"{asked}{asked}TEMPERATURE? TEMPERATURE? TEMPERATURE? end: input TEMPERATURE exhausted after 2 instants\n", 0))
+        self.made(program, "--prefix", "math", flags=["-O0"])
+        self.assertEqual(sorted(os.listdir(f"{self.room}/c")), ["main.c", "math_process.c", "math_process.h"])
 
     def test_mains_of_every_kind(self):
         """Programs without inputs, without outputs, and with events alone: nothing of their mains is unused."""
@@ -320,6 +388,15 @@ class Written(unittest.TestCase):
         said = self.said(made, "--live=values", given="true\ntrue\nx\n5\ntrue\nfalse\ntrue")
         self.assertEqual(said, ("HELD 5\nALARM false\nHELD 5\nALARM false\n", "TICK? REQ? V? an integer is wanted\nV? TICK? REQ? TICK? REQ? end: input REQ exhausted after 2 instants\n", 0))
 
+    def test_a_line_that_holds_a_nul(self):
+        """What stands after the NUL is part of the line: neither word is a value, and a NUL between blanks is a word."""
+        made = self.made(f"{EXAMPLES}/watch.sig")
+        wrong = "V: this is no value of it\n4 words, where 3 are wanted, `.` where an input does not come: TICK REQ V\n"
+        said = self.said(made, "--live", given="true true 5\0junk\ntrue true \0 5\ntrue true 5\n")
+        self.assertEqual(said, ("HELD 5\nALARM false\n", f"{wrong}end: no line after 1 instants\n", 0))
+        said = self.said(made, "--live=values", given="true\0x\ntrue\ntrue\n5")
+        self.assertEqual(said, ("HELD 5\nALARM false\n", "TICK? true is wanted\nTICK? REQ? V? TICK? end: input TICK exhausted after 1 instants\n", 0))
+
     def test_answers_come_at_once(self):
         made = self.made(f"{EXAMPLES}/sum.sig")
         with subprocess.Popen([made, "--live"], stdin=subprocess.PIPE, stdout=subprocess.PIPE, stderr=subprocess.PIPE) as it:
@@ -347,6 +424,35 @@ class Written(unittest.TestCase):
             self.assertEqual(set(wanted) - {"U", "_GLOBAL_OFFSET_TABLE_"}, {f"r_WATCH_{it}" for it in ("TICK", "REQ", "V")} | {"w_WATCH_HELD", "w_WATCH_ALARM"})
 
 
+class LiteralWritten(Written):
+    writer = ("--literal",)
+
+
+@needs_sigc
+@needs_gcc
+class Ranged(Making, unittest.TestCase):
+    def test_equal_delays_are_one_memory(self):
+        """With --types, of which a state has fewer fields; the run is the same."""
+        text = "process P = (? boolean R ! integer X, D)\n(| X := (0 when R) default (Z + 1) | X ^= R | Z := X $ init 0\n | Y := X | W := Y $ init 0 | D := W - (X $ init 0) + (X $ init 5) |)\nwhere integer Z, Y, W; end;\n"
+        program, flows = written(self.room, "p.sig", text), os.path.basename(written(self.room, "p.flows", "R false false true false true true false\n"))
+        for words, fields in (([], 4), (["--types"], 2)):
+            self.as_sigc(self.made(program, *words), program, flows)
+            with open(f"{self.room}/c/P.h", encoding="ascii") as it:
+                state = it.read().partition("typedef struct {")[2].partition("}")[0]
+            self.assertEqual(state.count(";"), fields, state)
+
+    def test_values_outside_of_a_range(self):
+        made = self.made(f"{EXAMPLES}/thermostat.sig", "--range", "TEMPERATURE=-5..300")
+        flows = written(self.room, "p.flows", "TEMPERATURE -5 300 301")
+        self.assertEqual(self.said(made, flows), ("HEATING true\nHEATING false\n", "end: input TEMPERATURE out of range after 2 instants\n", 3))
+        self.assertEqual(self.said(made, written(self.room, "p.flows", "TEMPERATURE 65536")), ("", "end: input TEMPERATURE out of range after 0 instants\n", 3))
+        told = "TEMPERATURE: this is outside of its range\n"
+        self.assertEqual(self.said(made, "--live", given="-6\n-5\n301\n300\n"), ("HEATING true\nHEATING false\n", f"{told}{told}end: no line after 2 instants\n", 0))
+        asked = "TEMPERATURE? an integer from -5 to 300 is wanted\n"
+        said = self.said(made, "--live=values", given="-6\nx\n-5\n300")
+        self.assertEqual(said, ("HEATING true\nHEATING false\n", f"{asked}{asked}TEMPERATURE? TEMPERATURE? TEMPERATURE? end: input TEMPERATURE exhausted after 2 instants\n", 0))
+
+
 FLOWS = [
     "", "\n \n\t\r\n", "TICK true true\r\nREQ false false\n", "flows 2\nTICK true*5\nREQ true*2 false*3\nV 1 -0002", "flows 2\nV 1*0", "flows 2\nV 9223372036854775808*2",
     "flows 2\nV 9223372036854775808*0", "flows 2\nV *2", "flows 2\nV 1*-2", "flows 2\nV 1*", "flows 2\nV 1*4000001", "flows 2\nV 0*4000000\nREQ true", "flows 2 \nTICK true", "flows 2 3\n", "flows 3\n",
@@ -362,8 +468,11 @@ class Words(unittest.TestCase):
             for program, words, line, status in (
                 (f"{EXAMPLES}/buttons.sig", [], "error 3:28: no root: RED and GREEN are independent\n", 1),
                 (f"{room}/nothing", [], f"error: {room}/nothing: not found\n", 5),
-                (f"{EXAMPLES}/sum.sig", ["--range", "A=5..1"], "sigc-c: --range wants an integer input and its bounds once, as A=0..100, and not 'A=5..1'\n", 2),
-                (f"{EXAMPLES}/sum.sig", ["--range", "Y=1..5"], "sigc-c: --range wants an integer input and its bounds once, as A=0..100, and not 'Y=1..5'\n", 2),
+                (f"{EXAMPLES}/sum.sig", ["--range", "A=5..1"], "sigc-c: --range A=5..1: 5 is greater than 1; write the least value first\n", 2),
+                (f"{EXAMPLES}/sum.sig", ["--range", "Y=1..5"], "sigc-c: --range Y=1..5: Y is no input; give the ranges of the inputs that it is computed from\n", 2),
+                (f"{EXAMPLES}/sum.sig", ["--range", "a=1..5"], "sigc-c: --range a=1..5: there is no signal a: did you mean A?\n", 2),
+                (f"{EXAMPLES}/sum.sig", ["--literal", "--types"], "sigc-c: the literal step has the types of the program: --literal stands without --types and --range\n", 2),
+                (f"{EXAMPLES}/sum.sig", ["--prefix", "toy"], "sigc-c: --prefix toy: C keeps functions that begin so for its library; take another one, as own_toy\n", 2),
                 (f"{EXAMPLES}/sum.sig", ["--prefix", "a-b"], "sigc-c: --prefix wants letters, digits and _, a letter first, and not 'a-b'\n", 2),
             ):
                 done = ran("sigc-c", program, "-o", f"{room}/c", *words)
@@ -381,6 +490,46 @@ class Words(unittest.TestCase):
                 done = ran("sigc-c", f"{EXAMPLES}/sum.sig", "-o", f"{room}/c")
                 self.assertEqual((done.stdout, done.stderr, done.returncode), ("", f"sigc-c: {room}/c/{name} is there and was not written by sigc-c\n", 1))
                 self.assertEqual({it: os.stat(f"{room}/c/{it}").st_mtime_ns for it in os.listdir(f"{room}/c")}, before)
+
+    @needs_sigc
+    def test_functions_of_the_library(self):
+        """C keeps names as strong_step for its library, also those that it has not yet."""
+        with tempfile.TemporaryDirectory() as room:
+            for name, stem in (("strong", "own_strong"), ("mtx", "own_mtx"), ("str", "str"), ("STRONG", "STRONG"), ("mtx_2", "mtx_2")):
+                shutil.rmtree(f"{room}/c", ignore_errors=True)
+                program = written(room, "p.sig", f"process {name} = (? integer A ! integer Y) Y := A;")
+                done = ran("sigc-c", program, "-o", f"{room}/c")
+                self.assertEqual((done.stdout, done.stderr, done.returncode), ("", "", 0))
+                self.assertEqual(sorted(os.listdir(f"{room}/c")), sorted(["main.c", f"{stem}.c", f"{stem}.h"]))
+
+    @needs_sigc
+    def test_long_names(self):
+        """Names of functions that agree in 31 characters are reported, those that agree in 63 are refused."""
+        with tempfile.TemporaryDirectory() as room:
+            for length, status, said in ((23, 0, ""), (30, 0, "a linker may look at 31 characters of a function's name, in which these agree: r_P_{0}A r_P_{0}B\n"), (60, 2, "C tells names apart by 63 characters, in which these agree: r_P_{0}A r_P_{0}B; give inputs and outputs shorter names, or a shorter --prefix\n")):
+                name = "X" * length
+                program = written(room, "p.sig", f"process P = (? integer {name}A, {name}B ! integer Y) Y := {name}A + {name}B;")
+                for words in ([], ["--literal"]):
+                    done = ran("sigc-c", program, "-o", f"{room}/c", *words)
+                    self.assertEqual((done.stdout, done.stderr, done.returncode), ("", f"sigc-c: {said.format(name)}" if said else "", status))
+
+    @needs_sigc
+    def test_one_long_name(self):
+        """A literal step has no name of more than 63 characters."""
+        with tempfile.TemporaryDirectory() as room:
+            name = "X" * 59
+            program = written(room, "p.sig", f"process P = (? integer {name}, A{name} ! integer Y) Y := {name} + A{name};")
+            said = f"sigc-c: C tells names apart by 63 characters, and these have more: r_P_A{name}; give inputs and outputs shorter names, or a shorter --prefix\n"
+            for words, line, status in (([], "", 0), (["--literal"], said, 2)):
+                done = ran("sigc-c", program, "-o", f"{room}/c", *words)
+                self.assertEqual((done.stdout, done.stderr, done.returncode), ("", line, status))
+
+    def test_names_of_63_letters(self):
+        names, long = c_names.Names("P"), "A" * 70
+        found = [names.fresh(long) for _ in range(12)] + [names.fresh(f"P_{long}"), names.fresh(f"{long[:62]}_")]
+        self.assertEqual(len({it[:63] for it in found}), len(found))
+        self.assertTrue(all(len(it) <= 63 for it in found))
+        self.assertEqual(c_names.Names("own").fresh("own_A"), "its_own_A")
 
     def test_names(self):
         names = c_names.Names("P")

@@ -1,7 +1,9 @@
 """The two files of a program in C: NAME.h, which tells what there is, and NAME.c, which has the step."""
 from sigc.c import c_names, expressions, step_text
+from sigc.c.comments import commented
 
 WHAT = ("DONE", "EXHAUSTED", "OVERFLOW", "DIVISION_BY_ZERO", "OUT_OF_RANGE")
+NO_STATE = "    uint8_t nothing; /* no signal is asked for its value before */"
 NOTE = """   Types are as narrow as the values{ranges}.
    Operations that always have a value within 64 bits, {count} of those that may fail otherwise, are not tested for it.
 """
@@ -16,8 +18,13 @@ HELPERS = {
     "negate": ("-a", "a == INT64_MIN", ""),
 }
 
+# Which writer made a step, and what is proved of it: a line of the first comment of each file.
+SHORT = "The step in {stem}.c is the short one: a script wrote it, and nothing about it is proved."
+LITERAL = "The step in {stem}.c is the literal one: a script wrote it, and nothing about it is proved."
+
 HEADER = """/* {title}, in C: one call of {p}_step does one instant. Written by sigc-c from
-   {path}; nothing about this file is proved.
+   {path}.
+   {made}
 {note}*/
 #ifndef {guard}
 #define {guard}
@@ -40,7 +47,8 @@ typedef struct {{
 enum {{ {what} }};
 typedef struct {{
     int what;
-    uint32_t line, column;
+    uint32_t line;
+    uint32_t column;
     const char *signal;
 }} {p}_end;
 
@@ -61,7 +69,8 @@ int {p}_step({p}_state *state, {p}_context *context);
 #endif
 """
 
-UNIT = """/* {title}, in C. Written by sigc-c from {path}; nothing about this file is proved.
+UNIT = """/* {title}, in C. Written by sigc-c from {path}.
+   {made}
    Each operation has the line and the column of the program that it comes from.
 {note}*/
 #include "{stem}.h"
@@ -82,11 +91,6 @@ int {p}_step({p}_state *state, {p}_context *context)
 """
 
 
-def commented(text):
-    """A text as it may stand in a comment."""
-    return "".join(it if " " <= it <= "~" else "?" for it in text).replace("*/", "* /").replace("/*", "/ *")
-
-
 def quoted(text):
     """A text of printable ASCII as a string of C; no two question marks begin a trigraph."""
     return '"' + text.replace("\\", "\\\\").replace('"', '\\"').replace("??", '?""?') + '"'
@@ -95,10 +99,11 @@ def quoted(text):
 class Unit:
     """A program's step as files, whose names begin with `prefix`."""
 
-    def __init__(self, step, path, title):
+    def __init__(self, step, path, title, made=SHORT):
         self.step, self.prefix, self.image = step, step.prefix, step.image
         self.stem = c_names.stem(self.prefix)
         self.words = {"p": self.prefix, "path": commented(path), "title": title, "stem": self.stem, "count": len(step.ends) + 1}
+        self.words["made"] = made.format(stem=self.stem)
         self.words["note"] = self.note()
 
     def note(self):
@@ -108,6 +113,11 @@ class Unit:
         given = [f"{self.image.signals[signal].name}={low}..{high}" for signal, (low, high) in self.step.ranges.given.items()]
         ranges = f" where inputs stay within {', '.join(given)};\n   {self.prefix}_step answers {self.prefix}_OUT_OF_RANGE where one does not" if given else ""
         return NOTE.format(ranges=ranges, count=len(self.step.steps.safe))
+
+    def functions(self):
+        """The names of the functions and tables that a linker sees."""
+        asked = [f"r_{self.prefix}_{it.name}" for it in self.inputs()] + [f"w_{self.prefix}_{it.name}" for it in self.outputs()]
+        return [f"{self.prefix}_init", f"{self.prefix}_step", f"{self.prefix}_ends", *asked]
 
     def inputs(self):
         return self.image.signals[: self.image.inputs]
@@ -138,7 +148,7 @@ class Unit:
         for memory, name in self.step.fields.items():
             it = self.step.steps.delays[memory][0]
             lines.append(f"    {self.step.memory_kind(memory)} {name}; /* {commented(self.step.source.comment(it))} */")
-        return "\n".join(lines) or "    uint8_t nothing; /* no signal is asked for its value before */"
+        return "\n".join(lines) or NO_STATE
 
     def asked(self):
         """The functions that an instance asks for its inputs."""
@@ -186,8 +196,8 @@ class Unit:
         lines = list(self.declarations())
         marks = {"state": "state->", "context": "(context"}
         lines += [f"    (void){name};" for name, mark in marks.items() if not any(mark in line for line in self.code_lines())]
-        lines += [f"    (void){name};" for name in self.step.unread()]
-        return "\n".join([*lines, *([""] if lines else []), *self.step.lines])
+        lines += [f"    (void){name};" for name in self.step.unread() if name not in self.step.constants]
+        return "\n".join([*lines, *([""] if lines else []), *self.step.body()])
 
     def code_lines(self):
         return [line for line in self.step.lines if not line.lstrip().startswith("/*")]

@@ -1,5 +1,6 @@
 """Names of a program as names of C: those of the program where C lets them, and no two alike."""
 import re
+import zlib
 
 KEYWORDS = set(
     "auto break case char const continue default do double else enum extern float for goto if inline int long register restrict "
@@ -12,8 +13,16 @@ KEYWORDS = set(
     "co_return co_yield import module final override "
     # what compilers define, and names that the text of a step has
     "linux unix i386 arm mips vax sun hpux NULL EOF errno assert signals slots emit "
-    "state context value add subtract multiply negate".split()
+    "state context value add subtract multiply negate divide modulo".split()
 )
+# Of a process; P_DIVISION_BY_ZERO then has 57 characters.
+LONGEST_PREFIX = 40
+# A file system takes names of 255 bytes, some less.
+LONGEST_STEM = 100
+# How many characters of a name count, for a compiler that takes no more than C11 promises.
+MOST_LETTERS = 63
+# Beginnings of functions that C11 keeps for its library, now or later.
+OF_LIBRARY = re.compile(r"(?:str|mem|wcs|is|to)[a-z]|(?:atomic|cnd|mtx|thrd|tss)\Z")
 # What stdint.h has, or may have.
 OF_STDINT = re.compile(r"[A-Za-z0-9_]*_t|[A-Z0-9_]*_(MIN|MAX|WIDTH|C)")
 # Headers that one of these names would shadow, and the file of the program that runs it.
@@ -39,21 +48,37 @@ def is_of_program(name, prefix):
     return name.startswith((f"{prefix}_", f"r_{prefix}_", f"w_{prefix}_", "_"))
 
 
+def prefix_for(name: str) -> str:
+    """What the names of C begin with for a process of this name: C tells names apart by 63 characters, so a long name is cut, and a number tells cut ones apart."""
+    if len(name) > LONGEST_PREFIX:
+        return f"{name[: LONGEST_PREFIX - 9]}_{zlib.crc32(name.encode()):08x}"
+    return f"own_{name}" if is_of_library(name) else name
+
+
+def is_of_library(prefix: str) -> bool:
+    """Whether C11 keeps names of functions that begin so for its library."""
+    return bool(OF_LIBRARY.match(prefix))
+
+
 class Names:
-    """Names of C for what has other names."""
+    """Names of C for what has other names: no two alike as far as C11 promises to look at them."""
 
     def __init__(self, prefix):
         self.prefix, self.taken = prefix, set()
 
     def fresh(self, wanted):
         """A name as near as may be to the one that is wanted, which nothing else has."""
-        name = re.sub(r"[^A-Za-z0-9_]", "_", wanted)
+        name, own, tries = re.sub(r"[^A-Za-z0-9_]", "_", wanted)[:MOST_LETTERS], "its" if self.prefix == "own" else "own", 0
         while is_taken(name, self.prefix) or name in self.taken:
-            name = f"own_{name}" if is_of_program(name, self.prefix) else f"{name}_"
+            tries += 1
+            behind = "_" if len(name) < MOST_LETTERS else f"_{tries}"
+            name = f"{own}_{name}"[:MOST_LETTERS] if is_of_program(name, self.prefix) else f"{name[:MOST_LETTERS - len(behind)]}{behind}"
         self.taken.add(name)
         return name
 
 
 def stem(prefix):
-    """The name of the files: another one where it would shadow a header, or is the program that runs it."""
+    """The name of the files: another one where it would shadow a header, is the program that runs it, or is too long for a file."""
+    if len(prefix) > LONGEST_STEM:
+        return f"{prefix[: LONGEST_STEM - 9]}_{zlib.crc32(prefix.encode()):08x}"
     return f"{prefix}_process" if prefix.lower() in HEADERS else prefix

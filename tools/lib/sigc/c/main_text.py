@@ -1,8 +1,10 @@
 """The program that runs a step over a flow file or over standard input: a text of C, the same but for a program's names."""
-from sigc.c.c_files import commented, quoted
+from sigc.c.c_files import quoted
+from sigc.c.comments import commented
 
 MAIN = r'''/* Runs {title} over a flow file, and writes what `sigc run` writes; or live, over what stands on standard input.
-   Written by sigc-c from {path}; nothing about this file is proved.
+   Written by sigc-c from {path}. A script wrote this file, and nothing about it is proved.
+   {made}
 
        PROGRAM FLOWS [--instants N]
        PROGRAM --live [--instants N]          each line is an instant: a word for each input in this order, `.` where it does not come:
@@ -41,9 +43,9 @@ struct {p}_context {{
     char out[PIECE];
     size_t used;
     int has_failed, source;
-    /* of a live run: the line, its words, and what is wrong with it */
+    /* of a live run: the line with its length (it may hold any bytes), its words, and what is wrong with it */
     char *line;
-    size_t room;
+    size_t length, room;
     Word words[INPUTS + 1];
     int is_taken[INPUTS + 1];
     const char *wrong;
@@ -148,10 +150,9 @@ static int read_line(Context *it)
     if (it->line == NULL) {{
         it->line = calloc(1, 1);
         it->room = it->line != NULL;
-        return it->line != NULL;
     }}
-    it->line[length - (length > 0 && it->line[length - 1] == '\r')] = 0;
-    return 1;
+    it->length = length - (length > 0 && it->line[length - 1] == '\r');
+    return it->line != NULL;
 }}
 
 /* Reads the line of an instant; 0 where there is none. What is wrong with it is told once the instant wants it. */
@@ -164,7 +165,7 @@ static int read_row(Context *it)
             return 0;
         }}
         at = it->line;
-        end = at + strlen(at);
+        end = at + it->length;
         it->words[0] = next_word(&at, end);
     }} while (it->words[0].length == 0 && INPUTS != 0);
     it->wrong = NULL;
@@ -645,7 +646,7 @@ static int asked_value(Context *it, int input, int64_t *value)
             return 0;
         }}
         at = it->line;
-        word = next_word(&at, it->line + strlen(it->line));
+        word = next_word(&at, it->line + it->length);
         if (word.length != 0 && value_of(word, flow->kind, value) == RIGHT && is_within(flow, *value)) {{
             return 1;
         }}
@@ -679,7 +680,7 @@ def main_text(unit):
     inputs = unit.inputs()
     said = f'end->what == {unit.prefix}_OVERFLOW ? "overflow" : "division by zero"'
     return MAIN.format(
-        p=unit.prefix, title=unit.words["title"], path=unit.words["path"], stem=unit.stem, inputs=len(inputs), said=said,
+        p=unit.prefix, title=unit.words["title"], path=unit.words["path"], made=unit.words["made"], stem=unit.stem, inputs=len(inputs), said=said,
         order=commented(" ".join(it.name for it in inputs)),
         writing="".join(writing(unit.outputs())).format(), taking=TAKING.format() if inputs else "",
         writers="".join(writer(unit, it) for it in unit.outputs()),

@@ -52,7 +52,7 @@ class Step:
         self.spelled = self.spellings()
         self.fields = self.state_fields()
         self.lines, self.open, self.ends, self.helpers = [], [Block(1, 0)], [], set()
-        self.declared, self.reads, self.given_by, self.is_over = {}, set(), {}, False
+        self.declared, self.constants, self.reads, self.given_by, self.is_over = {}, {}, set(), {}, False
         self.statements = list(steps.statements())
         self.outputs = [it for it in range(self.image.inputs, self.image.inputs + self.image.outputs) if steps.presence.get(it, 0)]
         self.uses = self.used()
@@ -117,7 +117,15 @@ class Step:
         are_truths = any(operand.signal is not None and self.image.signals[operand.signal].kind != "integer" for operand in it.fields[2])
         if it.fields[1] in expressions.DECIDED and not are_truths:
             return self.compared(it.fields[1], *it.fields[2])
-        return expressions.function(it.fields[1], self.operands(it), are_truths, self.wide_kind(it))
+        value = expressions.function(it.fields[1], self.operands(it), are_truths, self.wide_kind(it))
+        if it.fields[1] == "Mod" and self.ranges and value.constant is None and self.ranges.may_leave(it, self.wide_kind(it)):
+            return self.unless_unit(it, value)
+        return value
+
+    def unless_unit(self, it, remainder):
+        """A remainder, which is 0 where the divisor is -1: there C leaves open what the least value gives."""
+        is_unit = self.compared("Eq", it.fields[2][1], images.Operand(None, -1))
+        return expressions.choice(is_unit, expressions.constant(0), remainder)
 
     def values_of(self, operand):
         """The range of an operand, where ranges are known."""
@@ -249,6 +257,7 @@ class Step:
         self.given_by[name], value = key, expressions.cast(kind, value)
         if len(self.open) == 1:
             self.line(f"const {kind} {name} = {value.text};", value)
+            self.constants[name] = len(self.lines)
         else:
             self.declared[name] = kind, True
             self.line(f"{name} = {value.text};", value)
@@ -335,6 +344,14 @@ class Step:
         """The names that are given a value and not read, since another way to write the step wants them."""
         return [name for name in self.given_by if name not in self.reads]
 
+    def body(self):
+        """The lines, and behind each constant that is not read one that says so."""
+        behind = {self.constants[name]: name for name in self.unread() if name in self.constants}
+        found = []
+        for number, line in enumerate(self.lines, 1):
+            found += [line, f"{INDENT}(void){behind[number]};"] if number in behind else [line]
+        return found
+
     def read(self, it):
         """Asks for the next value of an input."""
         signal = it.target
@@ -383,7 +400,7 @@ class Step:
             return
         value = expressions.reckoned(it.fields[1], [first, second], self.wide_kind(it))
         if it.fields[1] == "Mod":
-            value = expressions.choice(is_unit, expressions.constant(0), value)
+            value = self.unless_unit(it, value)
         self.assign(name, self.kind(it.target), value, ("signal", it.target))
 
     def let(self, it):
@@ -396,7 +413,7 @@ class Step:
         value = cases[-1][1]
         for test, one in reversed(cases[:-1]):
             value = (expressions.truth_choice if self.kind(target) == "int" else expressions.choice)(test, one, value)
-        if len(cases) < 4 and len(value.text) < WIDTH - 40:
+        if len(cases) == 1 or len(cases) < 4 and len(value.text) < WIDTH - 40:
             self.assign_signal(name, target, value)
         else:
             self.branches(name, target, cases)
