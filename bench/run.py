@@ -15,8 +15,9 @@ Part `exec`: the same programs as in `run`, as images: `SIGC exec` and `SIGC run
 texts, and prints the least processor times of five runs each and their ratio; and the least wall times of `SIGC build`, and of an
 `exec` of one instant, from its begin to its end.
 
-Part `c`: the same programs as in `run`, written in C by tools/sigc-c and compiled by gcc -O2, and bench/run.c: files and text included,
-with the texts compared. Then the steps alone, over values in memory, with the outputs added up: prints the time of an instant.
+Part `c`: the same programs as in `run`, written in C by tools/sigc-c, the short and the literal step, and compiled by gcc -O2, and
+bench/run.c: files and text included, with the texts compared. Then the steps alone, over values in memory, with the outputs added
+up: prints the time of an instant and the bytes of the step's code, and the ratios of the literal step to the short one.
 
 Part `workers`: the 12 stages and a program of four clusters of 64 operations each with 0, 1, 2 and 4 workers. Compares the
 texts, and prints the least wall time of five runs, its ratio to that of 0 workers, and the processor time.
@@ -36,10 +37,16 @@ each of which hands 1, 4 or 16 signals to the collector, without workers and wit
 of the ratios of wall times by operations and signals of a cluster, in the median of nine runs in turn. Then the longest ones with
 1, 2, 4 and 8 workers at the capacities 1, 17 and 256. The capacity is 17 in the table: with two workers and the capacity of 16,
 which are the settings of words that ask for none, a run is made without workers where these would not pay.
+
+Part `clusters`: programs in C by tools/sigc-c, in clusters on threads beside the same in one step, compiled by gcc -O2: chains of 8
+to 250 sums, and of as many remainders by falling divisors, in two and four clusters. Compares the texts, and prints a table of the
+ratios of wall times, in the median of nine runs in turn, with those of processor times behind them. Then what an item of a stream
+costs on threads, and over MPI where that is installed: the program of part `items` in two clusters and in one.
 """
 import array
 import os
 import random
+import shutil
 import statistics
 import subprocess
 import sys
@@ -53,6 +60,9 @@ TOOLS = os.path.join(HERE, "..", "tools")
 sys.path.insert(0, os.path.join(TOOLS, "lib"))
 from sigc.image import images
 
+# The writers of tools/sigc-c, with their words.
+WRITERS = {"short": (), "literal": ("--literal",)}
+STEP_ROUNDS = 9
 C_KINDS = {"integer": "int64_t", "boolean": "int"}
 EXAMPLES = os.path.join(HERE, "..", "examples")
 INSTANTS = 1_000_000
@@ -66,6 +76,8 @@ EVENTS = 300_000
 MOST_RATIO = 30
 # how many operations each of so many clusters has, up to the most that 512 signals allow
 CHAINS = {2: (16, 64, 128, 250), 4: (16, 32, 64, 125)}
+# the same for clusters in C
+SPREAD = {2: (8, 16, 32, 64, 128, 250), 4: (8, 16, 32, 64, 125)}
 # how many signals each of them hands to the collector
 HANDED_ON = (1, 4, 16)
 # one more than the capacity where none is given
@@ -381,6 +393,13 @@ def embedded(folder, inputs, outputs):
     return made
 
 
+def code_size(folder):
+    """The bytes of the code of a step, without its tables."""
+    subprocess.run(["gcc", "-O2", "-c", "-o", "step.o", "c/p.c"], cwd=folder, check=True)
+    lines = subprocess.run(["size", "-A", "step.o"], cwd=folder, capture_output=True, text=True, check=True).stdout.splitlines()
+    return sum(int(it.split()[1]) for it in lines if it.startswith(".text"))
+
+
 def put_values(folder, flows):
     """Each flow as a file of integers."""
     numbers = {"true": 1, "false": 0}
@@ -394,23 +413,32 @@ def in_c(sigc, folder):
     for name, (program, flows) in PROGRAMS.items():
         made = flows(random.Random(1))
         instants = put_files(folder, program(), made)
-        env = {**os.environ, "SIGC": sigc}
-        subprocess.run([os.path.join(TOOLS, "sigc-c"), "program.sig", "-o", "c", "--prefix", "p"], cwd=folder, check=True, env=env)
-        subprocess.run(["gcc", "-O2", "-o", "whole", "c/p.c", "c/main.c"], cwd=folder, check=True)
-        own, _, peak = measured([os.path.join(folder, "whole"), "flows"], folder, "own")
-        plain, _, plain_peak = measured([plain_run, name, "flows"], folder, "plain")
-        assert read(folder, "own") == read(folder, "plain"), f"{name}: the texts differ"
         put_values(folder, made)
-        image = images.image_of(subprocess.run([sigc, "build", "program.sig"], cwd=folder, capture_output=True, check=True).stdout)
-        signals = [(it.kind, it.name) for it in image.signals[: image.inputs + image.outputs]]
-        words = [f"{name}.values" for _, name in signals[: image.inputs]]
-        program_alone = embedded(folder, signals[: image.inputs], signals[image.inputs :])
-        alone, _, _ = measured([program_alone, "1", *words], folder, "alone")
-        begun, _, _ = measured([program_alone, "0", *words], folder, "begun")
-        print(
-            f"{name} in C: {own:.3f} s ({1e9 * own / instants:.0f} ns an instant, {peak:.0f} MB), by hand {plain:.3f} s ({plain_peak:.0f} MB), "
-            f"ratio {own / plain:.2f}; steps alone {1e9 * (alone - begun) / instants:.0f} ns an instant"
-        )
+        plain, _, plain_peak = measured([plain_run, name, "flows"], folder, "plain")
+        found = {writer: written_in_c(sigc, folder, name, instants, words) for writer, words in WRITERS.items()}
+        print(f"{name} in C by hand: {plain:.3f} s ({plain_peak:.0f} MB)")
+        for writer, (own, peak, alone, size) in found.items():
+            print(
+                f"{name} in C, {writer}: {own:.3f} s ({1e9 * own / instants:.0f} ns an instant, {peak:.0f} MB), ratio {own / plain:.2f}; "
+                f"steps alone {alone:.1f} ns an instant, to the short one {alone / found['short'][2]:.2f}; "
+                f"code {size} bytes, to the short one {size / found['short'][3]:.2f}"
+            )
+
+
+def written_in_c(sigc, folder, name, instants, words):
+    """A program by a writer of C: its time and memory, the nanoseconds of a step alone, and the bytes of the step's code."""
+    env = {**os.environ, "SIGC": sigc}
+    subprocess.run([os.path.join(TOOLS, "sigc-c"), "program.sig", "-o", "c", "--prefix", "p", *words], cwd=folder, check=True, env=env)
+    subprocess.run(["gcc", "-O2", "-o", "whole", "c/p.c", "c/main.c"], cwd=folder, check=True)
+    own, _, peak = measured([os.path.join(folder, "whole"), "flows"], folder, "own")
+    assert read(folder, "own") == read(folder, "plain"), f"{name}: the texts differ"
+    image = images.image_of(subprocess.run([sigc, "build", "program.sig"], cwd=folder, capture_output=True, check=True).stdout)
+    signals = [(it.kind, it.name) for it in image.signals[: image.inputs + image.outputs]]
+    values = [f"{it}.values" for _, it in signals[: image.inputs]]
+    program_alone = embedded(folder, signals[: image.inputs], signals[image.inputs :])
+    alone, _, _ = measured([program_alone, "1", *values], folder, "alone", STEP_ROUNDS)
+    begun, _, _ = measured([program_alone, "0", *values], folder, "begun", STEP_ROUNDS)
+    return own, peak, 1e9 * (alone - begun) / instants, code_size(folder)
 
 
 def with_workers(sigc, folder):
@@ -499,7 +527,59 @@ def paying(sigc, folder):
                 print(f"    {lengths[-1]} {kind} in each of {count} clusters with {workers} workers, by capacity: {row}")
 
 
-PARTS = {"run": beside_c, "exec": beside_run, "c": in_c, "play": played_beside_c, "workers": with_workers, "items": items, "crowd": crowd, "pay": paying}
+def falling(before, j):
+    """Compilers drop remainders by rising divisors."""
+    return f"{before} modulo {1_003 - j}"
+
+
+def built_in_c(sigc, folder, carrier=None):
+    """A program in C, in one step or in clusters with a carrier: what starts it."""
+    made = carrier or "step"
+    words = ["--clusters", "--carrier", carrier] if carrier else []
+    env = {**os.environ, "SIGC": sigc}
+    subprocess.run([os.path.join(TOOLS, "sigc-c"), "program.sig", "-o", made, "--prefix", "p", *words], cwd=folder, check=True, env=env)
+    build = ["sh", f"{made}/build"] if carrier else ["gcc", "-O2", "-o", f"{made}/run", f"{made}/p.c", f"{made}/main.c"]
+    subprocess.run(build, cwd=folder, check=True)
+    return os.path.join(folder, made, "run")
+
+
+def beside_one_step(folder, clusters, step):
+    """The ratios of the wall and of the processor times, in the medians of runs in turn."""
+    walls, spents = [], []
+    for _ in range(TURNS):
+        alone, wall, _ = measured([step, "flows"], folder, "step-text", 1)
+        spent, spread, _ = measured([clusters, "flows"], folder, "clusters-text", 1)
+        assert read(folder, "step-text") == read(folder, "clusters-text"), "the texts differ"
+        walls.append(spread / wall)
+        spents.append(spent / alone)
+    return statistics.median(walls), statistics.median(spents)
+
+
+def in_clusters(sigc, folder):
+    for kind, operation in (("sums", one_more), ("remainders by falling divisors", falling)):
+        for count in SPREAD:
+            print(f"{count} clusters of {kind}, by the operations of each: wall time on threads over that of one step (processor times)")
+            cells = []
+            for operations in SPREAD[count]:
+                put_files(folder, chains(count, operations, operation), chains_flows(count)(random.Random(1)))
+                ratio = beside_one_step(folder, built_in_c(sigc, folder, "threads"), built_in_c(sigc, folder))
+                cells.append(f"{operations}: {ratio[0]:.2f} ({ratio[1]:.2f})")
+            print("    " + ", ".join(cells), flush=True)
+    for carrier in ("threads", "mpi") if shutil.which("mpicc") else ("threads",):
+        print(f"an item of a stream, {carrier}: {1e9 * item_cost(sigc, folder, carrier):.1f} ns", flush=True)
+
+
+def item_cost(sigc, folder, carrier):
+    """The wall time of an item: of a program that passes signals to another cluster, over that of it in one, in medians."""
+    walls = []
+    for apart in (False, True):
+        instants = put_files(folder, handing(apart), handing_flows(random.Random(1)))
+        run = built_in_c(sigc, folder, carrier)
+        walls.append(statistics.median(measured([run, "flows"], folder, "text", 1)[1] for _ in range(TURNS)))
+    return (walls[1] - walls[0]) / (HANDED * instants)
+
+
+PARTS = {"run": beside_c, "exec": beside_run, "c": in_c, "play": played_beside_c, "workers": with_workers, "items": items, "crowd": crowd, "pay": paying, "clusters": in_clusters}
 
 
 def main():

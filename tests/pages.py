@@ -13,31 +13,33 @@ TOP = os.path.dirname(os.path.dirname(os.path.realpath(__file__)))
 # The most bytes of a page, and of docs/ with the README and CONTRIBUTING together.
 BOUNDS = {
     "CONTRIBUTING.md": 4_096,
-    "README.md": 4_608,
-    "bench/README.md": 11_776,
+    "README.md": 5_120,
+    "bench/README.md": 12_032,
     "crates/sig_tool/README.md": 4_096,
     "examples/README.md": 9_216,
-    "tools/README.md": 17_408,
-    "docs/DECISIONS.md": 12_288,
+    "tools/README.md": 20_480,
+    "docs/DECISIONS.md": 14_336,
     "docs/architecture.md": 8_704,
     "docs/clocks.md": 14_336,
-    "docs/errors.md": 28_160,
+    "docs/errors.md": 28_672,
     "docs/formats.md": 20_480,
-    "docs/from-lustre.md": 9_344,
+    "docs/from-lustre.md": 9_728,
     "docs/gate-costs.md": 3_840,
     "docs/gate.md": 4_480,
-    "docs/glossary.md": 4_736,
-    "docs/idioms.md": 7_424,
+    "docs/glossary.md": 4_864,
+    "docs/idioms.md": 9_984,
     "docs/language.md": 13_056,
     "docs/limits.md": 7_680,
     "docs/meaning.md": 8_064,
     "docs/proofs.md": 7_040,
-    "docs/shipping.md": 10_496,
+    "docs/shipping.md": 20_480,
+    "docs/signal.md": 28_672,
+    "docs/spreading.md": 9_472,
     "docs/threads.md": 8_704,
     "docs/top-call.md": 4_096,
-    "docs/tutorial.md": 21_504,
+    "docs/tutorial.md": 25_344,
 }
-TOGETHER = 200_000
+TOGETHER = 268_000
 
 
 def documents():

@@ -17,7 +17,7 @@ import time
 TOP = os.path.dirname(os.path.dirname(os.path.realpath(__file__)))
 TESTS = f"{TOP}/tools/tests"
 # These take longest, and so they begin first.
-LONGEST = ("test_c.py", "test_every.py", "test_view.py", "test_prove.py", "test_starting.py", "test_why.py")
+LONGEST = ("test_clusters.py", "test_c.py", "test_every.py", "test_view.py", "test_prove.py", "test_starting.py", "test_why.py")
 
 
 def modules(names):

@@ -5,7 +5,7 @@ import subprocess
 
 from calling import HERE
 
-from sigc.c import c_files, step_text
+from sigc.c import c_files, literal_unit, step_text
 from sigc.image import images, intervals, sources, step_statements
 from sigc.read import syntax
 from sigc.trace import flow_values
@@ -31,16 +31,18 @@ void run_{p}(void)
 """
 
 
-def unit_of(image, text, prefix, bounds=None):
+def unit_of(image, text, prefix, bounds=None, is_literal=False):
     """The unit of an image, as sigc-c makes it; with narrow types where bounds of the integer inputs are given."""
-    read = images.image_of(image)
+    read, title = images.image_of(image), syntax.read(text).processes[0].name.text
+    if is_literal:
+        return literal_unit.LiteralUnit(read, sources.Source(text, read), prefix, "p.sig", title)
     steps, ranges = step_statements.Steps(read), None
     if bounds is not None:
         given = {at: bounds for at, it in enumerate(read.signals[: read.inputs]) if it.kind == "integer"} if bounds else {}
         ranges = intervals.Ranges(steps, given)
         steps = step_statements.Steps(read, ranges.safe)
     step = step_text.written(steps, sources.Source(text, read), prefix, ranges)
-    return c_files.Unit(step, "p.sig", syntax.read(text).processes[0].name.text)
+    return c_files.Unit(step, "p.sig", title)
 
 
 def adapter(unit):

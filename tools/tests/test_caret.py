@@ -191,6 +191,11 @@ class Lint(unittest.TestCase):
         for line, words in [(2, "A < 10 stands at 2:20 too"), (3, "A has to come as rarely as A when B here"), (7, "local U is not used"), (8, "process Q is not called"), (8, "input X is not used"), (5, "input A is taken where S > 0")]:
             self.assertTrue(any(at == line and it.startswith(words) for at, it in found), (words, found))
 
+    def test_delays_that_keep_the_same(self):
+        text = "process P = (? integer A; boolean B ! integer Y; boolean Q)\n(| Y := A - (A $ init 0) + Z + W\n | Z := A $ | W := A $ init 1\n | Q := B and (B $ init false)\n | B ^= A\n |)\nwhere integer Z init 0, W; end;\n"
+        self.assertEqual(self.warned(text), [(3, "the delay of A at 2:16 keeps the same: two memories with one value; name it once, and use the name")])
+        self.assertEqual(self.warned(text.replace("Z init 0", "Z init 2")), [])
+
     def test_a_boolean_that_nothing_asks(self):
         text = "process C = (? boolean SENSED, PRESSED; integer POS ! integer LAST)\n(| SENSED ^= PRESSED\n | POS ^= when SENSED\n | LAST := POS cell ^SENSED init 0\n |);\n"
         self.assertEqual([words.split(":")[0] for _, words in self.warned(text)], ["nothing asks the boolean input PRESSED"])

@@ -30,6 +30,7 @@ WAYS = {
     "sigc-clocks": [("FILE",)],
     "sigc-dev": [],
     "sigc-equations": [("FILE",)],
+    "sigc-expand": [("FILE",)],
     "sigc-format": [("FILE",), ("--check", "FILE")],
     "sigc-header": [("FILE",)],
     "sigc-image": [("FILE",)],
@@ -37,6 +38,7 @@ WAYS = {
     "sigc-lsp": [],
     "sigc-prove": [("FILE", "--never-ends")],
     "sigc-run": [("FILE", "FLOWS"), ("PROGRAM", "FILE"), ("PROGRAM", "FLOWS", "--want", "FILE")],
+    "sigc-step": [("FILE",), ("PROGRAM", "--flows", "FILE")],
     "sigc-table": [("check", "FILE", "TABLE"), ("check", "PROGRAM", "FILE"), ("flows", "FILE"), ("flows", "TABLE", "--program", "FILE"), ("rows", "FILE"), ("rows", "FILE", "FLOWS"), ("rows", "PROGRAM", "FILE")],
     "sigc-trace": [("FILE", "FLOWS"), ("PROGRAM", "FILE")],
     "sigc-view": [("FILE", "FLOWS"), ("PROGRAM", "FILE")],
@@ -44,9 +46,9 @@ WAYS = {
     "trace2vcd": [("FILE", "FLOWS"), ("PROGRAM", "FILE"), ("FILE",), ("TRACE", "--program", "FILE")],
 }
 # Where an empty file is one of those that are right.
-EMPTY = {("PROGRAM", "FILE"), ("run", "PROGRAM", "FILE"), ("rows", "PROGRAM", "FILE"), ("play", "PROGRAM", "FLOWS", "FILE")}
+EMPTY = {("PROGRAM", "FILE"), ("PROGRAM", "--flows", "FILE"), ("run", "PROGRAM", "FILE"), ("rows", "PROGRAM", "FILE"), ("play", "PROGRAM", "FLOWS", "FILE")}
 # Scripts that ask sigc of a program, with the words that they begin with.
-ASKING = ("clocks2dot", "sigc", "sigc-c", "sigc-caret", "sigc-run", "sigc-table", "sigc-trace", "sigc-view", "sigc-why", "trace2vcd")
+ASKING = ("clocks2dot", "sigc", "sigc-c", "sigc-caret", "sigc-run", "sigc-step", "sigc-table", "sigc-trace", "sigc-view", "sigc-why", "trace2vcd")
 # Scripts that run a program, with the words behind the files or before them.
 RUNNING = {"sigc-trace": (), "trace2vcd": (), "sigc-run": ("--workers", "0"), "sigc-table": ("rows",)}
 LONG = "process LONG = (? event T ! integer N)\n(| N := (N $ init 0) + 1 | N ^= T |);\n"

@@ -4,11 +4,12 @@ import random
 import re
 import tempfile
 import unittest
+from unittest import mock
 
-from calling import EXAMPLES, TOP, TUTORIAL, needs_sigc, ran, sigc, written
+from calling import EXAMPLES, TOP, TUTORIAL, module_of, needs_sigc, ran, sigc, written
 from programs import Program
 
-from sigc.read import files_read, layout, syntax
+from sigc.read import files_read, layout, syntax, text_limits
 
 COUNT = int(os.environ.get("SIGC_FORMAT_PROGRAMS", "80"))
 COMMENTS = ("%%", "% a note %", "% two\n   lines %", "%\n%", "%\t\xe9 and \xff %", "% (| := default |) %", "%\r\n a %")
@@ -34,6 +35,32 @@ LONG = "process LONG = (? integer A ! integer Y)\n(| Y := " + " default ".join(f
 LONG += ", ".join(f"LOCAL{at}" for at in range(20)) + "; boolean B; end;\n"
 
 
+def program_of(right):
+    return f"process P = (? integer A; boolean B ! integer Y)\n(| Y := {right}\n |);\n"
+
+
+def nested(count, before, behind, inside="Y := A"):
+    return f"process P = (? integer A ! integer Y)\n{before * count}{inside}{behind * count};\n"
+
+
+# A text that keeps to a limit, one that passes it, and the words of the refusal.
+LIMITS = [
+    *((program_of(make(63)), program_of(make(64)), "nesting deeper than 64") for make in (
+        lambda n: "(" * n + "A" + ")" * n, lambda n: "A when " + "not " * n + "B", lambda n: "- " * n + "A", lambda n: "A when " + "(when " * (n // 2) + "(" * (n % 2) + "B" + ")" * (n // 2 + n % 2),
+    )),
+    (nested(64, "(|", "|)"), nested(65, "(|", "|)"), "nesting deeper than 64"),
+    (nested(63, "(|", "|)", "(Y) := (A)"), nested(64, "(|", "|)", "(Y) := (A)"), "nesting deeper than 64"),
+    (nested(64, "Y := A where process Q = (? integer A ! integer Y) ", "; end"), nested(65, "Y := A where process Q = (? integer A ! integer Y) ", "; end"), "nesting deeper than 64"),
+    (program_of("A" + " + A" * 512), program_of("A" + " + A" * 513), "more than 512 operators"),
+    (program_of("-A" + " + A" * 511), program_of("-A" + " + A" * 512), "more than 512 operators"),
+    (program_of(f"Q(A, A{' + A' * 512})"), program_of(f"Q(A + A, A{' + A' * 512})"), "more than 512 operators"),
+    (program_of(f"A $ init 0{' - A' * 509} cell (when B) init 0"), program_of(f"A $ init 0{' - A' * 510} cell (when B) init 0"), "more than 512 operators"),
+    (program_of("A + 9223372036854775807"), program_of("A + 9223372036854775808"), "number too large"),
+    (program_of("A + 09223372036854775807"), program_of("A + " + "9" * 5000), "number too large"),
+    (f"%{' ' * 1_048_500}%\n" + "process P = (? ! ) (| |);", f"%{' ' * 1_048_600}%\n" + "process P = (? ! ) (| |);", "program longer than 1048576 bytes"),
+]
+
+
 def programs():
     """The texts of all programs of the repository that are read as programs, those in documents too."""
     for folder in (EXAMPLES, TUTORIAL, f"{TOP}/bench"):
@@ -43,7 +70,8 @@ def programs():
     for name in sorted(os.listdir(f"{TOP}/docs")):
         if name.endswith(".md"):
             for at, text in enumerate(re.findall(r"^```signal [^\n]*\n(.*?)^```$", files_read.read_text(f"{TOP}/docs/{name}"), flags=re.M | re.S)):
-                if not syntax.read(text).faults and not syntax.read(text).strange:
+                reader = syntax.read(text)
+                if not reader.faults and not reader.strange and not text_limits.first_excess(reader):
                     yield f"{name} {at}", text
 
 
@@ -129,6 +157,26 @@ class Refused(unittest.TestCase):
         self.assertEqual(self.refusal(text), "more than 250000 words")
 
 
+    def test_texts_that_pass_a_limit(self):
+        """At each limit of docs/limits.md that a text may pass a program that keeps to it, and one that does not."""
+        for kept, passing, words in LIMITS:
+            layout.formatted(kept)
+            self.assertRegex(self.refusal(passing), f"^([0-9]+:[0-9]+: )?{words}$")
+
+    @needs_sigc
+    def test_sigc_refuses_these_at_the_same_places(self):
+        with tempfile.TemporaryDirectory() as room:
+            for kept, passing, words in LIMITS:
+                said = sigc("check", written(room, "p.sig", passing)).stderr.strip().removeprefix("error").removeprefix(":").strip()
+                self.assertEqual(self.refusal(passing), said)
+                self.assertNotIn(words, sigc("check", written(room, "p.sig", kept)).stderr)
+
+    def test_a_long_number_and_a_long_name(self):
+        """More digits than Python turns into a number, and a word that a message shows in part."""
+        layout.formatted(program_of(f"A $ {'0' * 5000}1 init 0"))
+        self.assertEqual(self.refusal(program_of(f"A $ {'7' * 5000} init 0")), f"2:13: found `{'7' * 58}..`")
+
+
 class Words(unittest.TestCase):
     def setUp(self):
         room = tempfile.TemporaryDirectory()
@@ -146,6 +194,36 @@ class Words(unittest.TestCase):
         self.assertEqual((done.stdout, done.stderr, done.returncode), ("", f"sigc-format: {wrong}:1:10: the text ends\n", 1))
         self.assertEqual([files_read.read_text(it) for it in (messy, neat, wrong)], [NEAT, NEAT, "process P"])
         self.assertEqual(sorted(os.listdir(self.room)), ["messy.sig", "neat.sig", "wrong.sig"])
+
+    def test_what_stands_beside_the_file_stays(self):
+        messy = written(self.room, "messy.sig", MESSY)
+        os.chmod(messy, 0o751)
+        beside = written(self.room, "messy.sig.new", "mine")
+        os.mkdir(f"{self.room}/other")
+        os.symlink("../messy.sig", f"{self.room}/other/link.sig")
+        self.assertEqual(ran("sigc-format", "--write", f"{self.room}/other/link.sig").returncode, 0)
+        self.assertEqual([files_read.read_text(it) for it in (messy, beside)], [NEAT, "mine"])
+        self.assertEqual(sorted(os.listdir(self.room)), ["messy.sig", "messy.sig.new", "other"])
+        self.assertEqual((os.stat(messy).st_mode & 0o7777, os.readlink(f"{self.room}/other/link.sig"), os.listdir(f"{self.room}/other")), (0o751, "../messy.sig", ["link.sig"]))
+
+    def test_a_link_into_another_file_system(self):
+        with tempfile.TemporaryDirectory(dir="/dev/shm" if os.path.isdir("/dev/shm") else None) as elsewhere:
+            os.symlink(written(elsewhere, "messy.sig", MESSY), f"{self.room}/link.sig")
+            done = ran("sigc-format", "--write", f"{self.room}/link.sig")
+            self.assertEqual((done.stderr, done.returncode, files_read.read_text(f"{elsewhere}/messy.sig"), os.listdir(elsewhere)), ("", 0, NEAT, ["messy.sig"]))
+            self.assertTrue(os.path.islink(f"{self.room}/link.sig"))
+
+    def test_a_file_of_two_names_stays_one(self):
+        os.link(written(self.room, "one.sig", MESSY), f"{self.room}/other.sig")
+        self.assertEqual(ran("sigc-format", "--write", f"{self.room}/one.sig").returncode, 0)
+        self.assertEqual(files_read.read_text(f"{self.room}/other.sig"), NEAT)
+        self.assertTrue(os.path.samefile(f"{self.room}/one.sig", f"{self.room}/other.sig"))
+
+    def test_a_file_that_cannot_be_replaced(self):
+        messy = written(self.room, "messy.sig", MESSY)
+        with mock.patch("os.replace", side_effect=OSError(28, "No space left on device", messy)), self.assertRaises(OSError):
+            module_of("sigc-format").replaced(messy, NEAT)
+        self.assertEqual((files_read.read_text(messy), os.listdir(self.room)), (MESSY, ["messy.sig"]))
 
 
 if __name__ == "__main__":

@@ -1,7 +1,9 @@
 """The language server, spoken to directly; and the files for editors, in Vim and Neovim where they are installed."""
+import io
 import json
 import os
 import pathlib
+import random
 import shutil
 import subprocess
 import sys
@@ -13,7 +15,8 @@ from unittest import mock
 from helping import EXAMPLES, NEEDS_SIGC, TOOLS, only_with, program, ran
 
 from sigc.call import compiler
-from sigc.editor import documents, soon
+from sigc.editor import documents, places, soon
+from sigc.editor.messages import Messages
 from sigc.hints import entries
 from sigc.read import layout
 
@@ -59,6 +62,12 @@ class Client:
         self.server.stdin.close()
         self.server.stdout.close()
         return self.server.wait(30)
+
+
+def place_in(text, at):
+    """The place of a letter of a text whose lines end with newlines."""
+    before = text[:at].rpartition("\n")[2]
+    return {"line": text.count("\n", 0, at), "character": len(before.encode("utf-16-le")) // 2}
 
 
 def spot(line, first, last):
@@ -211,6 +220,39 @@ class Conversation(unittest.TestCase):
             self.assertEqual(self.found("zn"), [])
             self.assertEqual([it[:3] for it in self.found("newer")], [("NEWER", "P", "a.sig")])
 
+    def test_incremental_edits(self):
+        """Each change is of the text that the one before it left; a wrong one leaves the document as it was."""
+        self.client.open("process P = (? integer A ! integer Y)\r\n(| Y := A |);\r\n")
+        changes = [{"range": spot(0, 15, 22), "text": "boolean"}, {"range": spot(0, 27, 34), "text": "boolean"}, {"range": spot(1, 9, 9), "text": "B"}]
+        self.client.notify("textDocument/didChange", {"textDocument": {"uri": URI}, "contentChanges": changes})
+        (found,) = self.client.read()["params"]["diagnostics"]
+        self.assertEqual((found["range"], found["message"].split("\n")[0]), (spot(1, 8, 10), "unknown name AB"))
+        wrong = {"range": {"start": {"line": 1, "character": 9}, "end": {"line": 0, "character": 0}}, "text": "x"}
+        self.client.notify("textDocument/didChange", {"textDocument": {"uri": URI}, "contentChanges": [{"text": "no program"}, wrong]})
+        self.client.notify("textDocument/didChange", {"textDocument": {"uri": URI}, "contentChanges": [{"range": spot(1, 9, 10), "text": ""}]})
+        self.assertEqual(self.client.read()["params"]["diagnostics"], [])
+
+    def test_headers_that_are_wrong(self):
+        """Behind each of them the next request has its answer."""
+        body = b'{"jsonrpc": "2.0", "id": 7, "method": "x/y"}'
+        size = len(body)
+        wrong = [
+            body, b"\r\n\r\n" + body, b"Content-Type: text\r\n\r\n" + body, b"Content-Length: none\r\n\r\n" + body,
+            b"Content-Length: -4\r\n\r\n" + body, b"Content-Length:\r\n\r\n" + body, b"Content-Length: 99999999\r\n\r\n" + body,
+            b"Content-Length: 123456789012\r\n\r\n" + body, b"Content-Length: %d\r\n\r\n%s" % (size - 9, body),
+            b"Content-Length: %d\r\n\r\n%s" % (size + 9, body), b"Content-Length %d\r\n\r\n%s" % (size, body), b"x" * 300_000, b"\x00\xff\n\n\n", b"Content-Length: 0\r\n\r\n",
+        ]
+        right = [b"content-length:%d\n\n%s" % (size, body), b"Content-Type: x\r\nContent-Length:  %d \r\n\r\n%s" % (size, body)]
+        for number, it in enumerate([*wrong, *right], 100):
+            with self.subTest(it[:40]):
+                self.client.server.stdin.write(it)
+                self.client.asked = number
+                answer = self.client.ask("nothing", {})
+                while answer["id"] != number + 1:
+                    self.assertIn("error", answer)
+                    answer = self.client.read()
+                self.assertEqual(answer["error"]["code"], -32601)
+
     def test_what_is_no_request(self):
         self.assertEqual(self.client.ask("textDocument/nothing", {})["error"]["code"], -32601)
         self.assertEqual(self.client.ask("textDocument/hover", {})["error"]["code"], -32602)
@@ -242,7 +284,39 @@ class Late(unittest.TestCase):
         self.assertEqual(soon.When(sigc, compiler.PROBE).words("NONE"), "")
 
 
+class Stream(unittest.TestCase):
+    def test_messages_behind_bytes_by_chance(self):
+        """Whatever stands before them, of three messages in a row the last two are read."""
+        draws, pieces = random.Random(10), [b"Content-Length: ", b"\r\n", b"\n", b"{", b"}", b'"', b"17", b"5", b" ", b":", b"x\xff"]
+        whole = [b'{"id": %d}' % it for it in range(3)]
+        for _ in range(300):
+            junk = b"".join(draws.choices(pieces, k=draws.randrange(12)))
+            stream = Messages(io.BytesIO(junk + b"".join(b"Content-Length: %d\r\n\r\n%s" % (len(it), it) for it in whole)))
+            found = [it for it in iter(stream.following, None) if it]
+            self.assertEqual(found[-2:], [{"id": 1}, {"id": 2}], junk)
+
+
 class Places(unittest.TestCase):
+    def test_lines_of_every_end(self):
+        document = documents.Document(URI, "A\r\nB\rC\n\nD", None)
+        for offset, place in ((0, (0, 0)), (1, (0, 1)), (3, (1, 0)), (5, (2, 0)), (7, (3, 0)), (8, (4, 0)), (9, (4, 1))):
+            place = {"line": place[0], "character": place[1]}
+            self.assertEqual((document.position(offset), document.offset(place)), (place, offset))
+        self.assertEqual([document.offset({"line": it, "character": 99}) for it in range(6)], [1, 4, 6, 7, 9, 9])
+
+    def test_changes_by_chance(self):
+        """Ranges in units of UTF-16 do what the same edits of a list of units do."""
+        draws, letters = random.Random(7), ["a", "\u00e9", "\U0001f600", "\n"]
+        for _ in range(200):
+            text = "".join(draws.choices(letters, k=draws.randrange(9)))
+            had, wanted = places.bytes_in(text), text
+            for _ in range(3):
+                one, other = sorted(draws.choices(range(len(wanted) + 1), k=2))
+                put = "".join(draws.choices(letters, k=draws.randrange(4)))
+                had = places.changed(had, [{"range": {"start": place_in(wanted, one), "end": place_in(wanted, other)}, "text": put}])
+                wanted = wanted[:one] + put + wanted[other:]
+            self.assertEqual(places.shown(had), wanted)
+
     def test_units(self):
         document = documents.Document(URI, "\u00e9\U0001f600A\nB", None)
         self.assertEqual(document.position(6), {"line": 0, "character": 3})

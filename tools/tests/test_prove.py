@@ -1,6 +1,7 @@
 """sigc-prove: formulas that run as sigc does, properties with known answers, and a z3 that is not there or fails."""
 import os
 import random
+import re
 import signal
 import subprocess
 import sys
@@ -13,8 +14,8 @@ from formulas import Runner
 from programs import Program
 
 from sigc.call import running
-from sigc.image import images
-from sigc.prove import deciding, property_language, smt_formulas, z3_solver
+from sigc.image import equal_memories, image_runs, images
+from sigc.prove import induction, property_language, searching, smt_formulas, systems, z3_solver
 from sigc.trace import flow_values, traces
 
 needs_z3 = unittest.skipUnless(z3_solver.path(), "z3 is not installed")
@@ -36,6 +37,8 @@ CALLS = (
 DIVIDES = "process P = (? integer A, B ! integer Q, R) (| Q := A / B | R := A modulo B |);\n"
 SUMS = "process P = (? integer A ! integer S, D) (| S := A + A | D := A - 1 |);\n"
 TWO = "process P = (? integer U, V ! integer Y, Z) (| Y := U + 1 | Z := V + 1 |);\n"
+PACED = "process P = (? integer U, V ! boolean POS; integer Y, Z; boolean OK)\n(| POS := U > 0 | Y := U + 1 | OK := Y > U\n | Z := V + 1 |);\n"
+PACED_INSIDE = "process P = (? integer L, Y, N ! boolean OK; integer Z)\n(| OK := L = L\n | Z := L + 1 | K := Y ^* N | K ^= K ^- K | Y ^= when ((N ^+ Y) $ init false) |) where event K; end;\n"
 PAIR = "process P = (? boolean B ! integer X, Y) (| X := (X $ init 0) + 1 - (X $ init 0) | Y := X | X ^= B |);\n"
 SWAP = "process P = (? event E ! boolean L, R) (| L := R $ init false | R := L $ init true | L ^= E |);\n"
 BOUNDED = "process P = (? integer A ! integer M) (| ZM := M $ init 0 | M := (A when A > ZM when A < 1000) default ZM | M ^= A |) where integer ZM; end;\n"
@@ -47,6 +50,42 @@ HELD = (
     " | A ^= B ^= M ^= N | Y := ZN * ZN * ZN |) where integer M, ZM, N, ZN; end;\n"
 )
 LATE = "process P = (? integer A ! integer Y) (| Y := 7 / ((A $ init 1) - 1 + 1) |);\n"
+ADDS = "process P = (? integer A ! integer N) (| N := (N $ init 0) + A |);\n"
+CHECKED = "process P = (? integer A ! integer Y; boolean SMALL) (| Y := A + 100 | SMALL := A < 100 |);\n"
+FIRST = "process P = (? integer A, B ! integer X, Y) (| X := A / B | Y := A + B |);\n"
+CROSSING = """process P = (? event SECOND; boolean BUTTON ! integer CARS; boolean WALK)
+(| STATE := NEXT $ init 0
+ | NEXT := (2 when STATE = 0 and REQUEST and ZT >= 20) default (3 when STATE = 2 and ZT >= 10) default (0 when STATE = 3 and ZT >= 4) default STATE
+ | T := (0 when NEXT /= STATE) default (ZT + 1) | ZT := T $ init 0
+ | REQUEST := (true when BUTTON) default (false when STATE = 2) default (REQUEST $ init false)
+ | REQUEST ^= SECOND ^= BUTTON ^= STATE
+ | CARS := (0 when STATE = 0) default (1 when STATE = 1) default (2 when ^STATE) | WALK := STATE = 2
+ |)
+where integer STATE, NEXT, T, ZT; boolean REQUEST; end;
+"""
+DEEP = "process P = (? event E ! integer N) (| N := (N $ init 0) + 1 | N ^= E |);\n"
+HARD = "process P = (? integer A ! integer Y) (| Y := ((A * A * A) + (ZY * ZY * A)) modulo 1000033 | ZY := Y $ init 1 |) where integer ZY; end;\n"
+TWICE = """process P = (? boolean R ! integer X, D)
+(| X := (0 when R) default (0 when Z >= 100) default (Z + 1) | X ^= R | Z := X $ init 0
+ | Y := X | W := Y $ init 0 | D := W - (X $ init 0) + ((V $ init 5) - (X $ init 5)) + (U $ init 0) | V := X | U := (0 * R2) | R2 := (1 when R) default (2 when ^R)
+ |)
+where integer Z, Y, W, V, U, R2; end;
+"""
+CRUISE = """process P = (? boolean SET, ON, OFF; integer SPEED ! integer THROTTLE; boolean ACTIVE)
+(| SET ^= ON ^= OFF ^= SPEED ^= ACTIVE
+ | ACTIVE := (false when OFF) default (true when ON) default (ACTIVE $ init false)
+ | WANTED := (SPEED when SET) default (WANTED $ init 0)
+ | ERROR := WANTED - SPEED
+ | I := (0 when not ACTIVE) default ((I $ init 0) when (SATURATED $ init false)) default ((I $ init 0) + 2 * ERROR)
+ | RAW := (40 * ERROR + I) / 256
+ | (THROTTLE, SATURATED) := CLIP{0, 1000}(RAW)
+ |)
+where
+ integer WANTED, ERROR, I, RAW; boolean SATURATED;
+ process CLIP = {integer LOW, HIGH} (? integer X ! integer Y; boolean S)
+ (| Y := (LOW when X < LOW) default (HIGH when X > HIGH) default X | S := X /= Y |);
+end;
+"""
 NAMELESS = "process P = (? integer A ! integer Y, Z) (| Y := (A + 1) + 2 | Z := F(A) |) where\n"
 NAMELESS += "process F = (? integer X ! integer Y)\n   (| Y := X * X * X |); end;\n"
 
@@ -93,24 +132,67 @@ def image_of(path):
     return images.image_of(data) if status == 0 else None
 
 
+def values_of(image, flows):
+    """The values of the flows of an image's inputs, by their names."""
+    read = flow_values.read_flows(running.text_of(flows), [it.name for it in image.signals[: image.inputs]])
+    return {name: [property_language.value_of(it) for it in words] for name, words in read.items()}
+
+
 def run_by_formulas(path, flows, limit):
     """The text and the end of a run by the formulas; None where the program has no image."""
     image = image_of(path)
+    return None if image is None else Runner(smt_formulas.Step(image)).run(values_of(image, flows), limit)
+
+
+class Exhausted(Exception):
+    """The name of an input without a further value."""
+
+
+def run_in_python(path, flows, limit):
+    """So a run in Python."""
+    image = image_of(path)
     if image is None:
         return None
-    read = flow_values.read_flows(running.text_of(flows), [it.name for it in image.signals[: image.inputs]])
-    values = {name: [property_language.value_of(it) for it in words] for name, words in read.items()}
-    return Runner(smt_formulas.Step(image)).run(values, limit)
+    image = equal_memories.merged(image)
+    run, text, left = image_runs.ImageRun(image), [], {name: iter(it) for name, it in values_of(image, flows).items()}
+
+    def read(number):
+        for value in left[image.signals[number].name]:
+            return value
+        raise Exhausted(image.signals[number].name)
+
+    for number in range(limit):
+        try:
+            run.memories = run.instant(read)
+        except image_runs.Failed as it:
+            place = image.operations[it.order]
+            return "".join(text), f"end: {it.what} at {place.line}:{place.column} after {number} instants\n"
+        except Exhausted as it:
+            return "".join(text), f"end: input {it} exhausted after {number} instants\n"
+        outputs = image.signals[image.inputs : image.inputs + image.outputs]
+        named = run.named()
+        text += (f"{it.name} {named[it.name] if it.kind == 'integer' else 'true' if named[it.name] else 'false'}\n" for it in outputs if it.name in named)
+    return "".join(text), f"end: limit after {limit} instants\n"
 
 
 @needs_sigc
 class FormulasRunAsPrograms(unittest.TestCase):
-    def same(self, path, flows, limit=200):
-        found = run_by_formulas(path, flows, limit)
+    def same(self, path, flows, limit=200, how=None):
+        found = (how or run_by_formulas)(path, flows, limit)
         if found is not None:
             run = sigc("run", path, flows, "--workers", "0", "--instants", str(limit))
             self.assertEqual((run.stdout, run.stderr), found, path)
         return found is not None
+
+    def test_runs_in_python(self):
+        """Runs of images in Python, by which flows are drawn and claims attacked."""
+        for path, flows in pairs(EXAMPLES):
+            if "flows 2" not in running.text_of(flows):
+                self.same(path, flows, how=run_in_python)
+        with tempfile.TemporaryDirectory() as folder:
+            for seed in range(DRAWN):
+                it = Program(seed)
+                self.same(written(folder, "p.sig", it.text()), written(folder, "p.flows", it.flows()), 40, run_in_python)
 
     def test_examples(self):
         for path, flows in pairs(EXAMPLES):
@@ -157,11 +239,37 @@ class Claims(unittest.TestCase):
             said = ran("sigc-prove", path, "--pace", "--never", "Y = 3", "--never", "pace_1 and not ^Y")
             self.assertIn("false: never Y = 3", said.stdout)
 
+    def test_claims_with_paces_are_about_the_program(self):
+        """Outputs and places are those of the program, also if sigc is asked about another text."""
+        with tempfile.TemporaryDirectory() as folder:
+            for text, wanted in ((PACED, ["always POS", "always OK"]), (PACED_INSIDE, ["always OK"])):
+                path, given = written(folder, "p.sig", text), ["--range", "U=1..5"] if text == PACED else []
+                said = ran("sigc-prove", path, "--pace", "--all", *given, "--seconds", SECONDS)
+                self.assertEqual((said.stdout, said.stderr), ("".join(f"proved: {it}\n" for it in wanted), ""))
+                said = ran("sigc-prove", path, "--pace", "--faults", *given)
+                self.assertRegex(said.stdout, r"false: no overflow at 3:11 \(Z\): end: overflow at 3:11 after")
+                self.assertEqual(ran("sigc-prove", path, "--pace", "--never", "instant").returncode, 3)
+
+    def test_bounds_of_ranges(self):
+        least, most = -(2**63), 2**63 - 1
+        with tempfile.TemporaryDirectory() as folder:
+            path = written(folder, "p.sig", SUMS)
+            for words, told in (([f"A=0..{most + 1}"], f"--range A=0..{most + 1}: values have 64 bits, so bounds are from {least} to {most}"), ([f"S={least - 1}..0"], "values have 64 bits"),
+                                (["A=0..1", "A=0..2"], "--range A=0..2: A has a range already, 0..1"), (["S=0..1", "S=0..2"], "S has a range already"), (["A=2..1"], "2 is greater than 1"),
+                                (["a=0..1"], "--range a=0..1: there is no signal a: did you mean A?"), (["QQQ=0..1"], "--range QQQ=0..1: there is no signal QQQ"), (["A"], "--range A: write the signal with its least")):
+                said = ran("sigc-prove", path, "--never-ends", *(it for word in words for it in ("--range", word)))
+                self.assertEqual((said.returncode, said.stdout, told in said.stderr), (3, "", True), said.stderr)
+            said = ran("sigc-prove", path, f"--range=S={least}..{most}", f"--range=D={least}..{most - 1}")
+            self.assertEqual(answers(said.stdout), "proved proved", said.stdout)
+            self.assertIn(f"false: D in {least}..{least}", ran("sigc-prove", path, f"--range=D={least}..{least}").stdout)
+            said = ran("sigc-prove", written(folder, "q.sig", COUNTER), "--range", "B=0..1", "--never-ends")
+            self.assertEqual(said.stderr, "sigc-prove: --range B=0..1: B is a boolean, and only integers have a range\n")
+
     def test_what_is_told_beside(self):
         with tempfile.TemporaryDirectory() as folder:
             path = written(folder, "p.sig", COUNTER)
             self.assertIn("it never comes", ran("sigc-prove", path, "--never", "(N when (N > 10)) > 3").stdout)
-            self.assertIn("no flows meet", ran("sigc-prove", path, "--assume", "N < 0", "--always", "N = 7").stdout)
+            self.assertIn("no instant of any flows meets", ran("sigc-prove", path, "--assume", "N < 0", "--always", "N = 7").stdout)
             slow = written(folder, "s.sig", SLOW)
             self.assertIn("ties the clocks", ran("sigc-prove", slow, "--always", "A > 0 or B or not B").stdout)
 
@@ -180,9 +288,9 @@ class Claims(unittest.TestCase):
     def test_the_instant_that_fails(self):
         with tempfile.TemporaryDirectory() as folder:
             said = ran("sigc-prove", written(folder, "p.sig", DIVIDES), "--faults", "--range", "B=-1..0")
-            self.assertRegex(said.stdout, r"no division by zero at 1:55 \(Q\): end: .*\n  flow A -?\d+\n  flow B 0\n  instant   A +B\n  1 \(fails\) -?\d+ +0\n")
+            self.assertRegex(said.stdout, r"no division by zero at 1:55 \(Q\): end: .*\n  flow A( -?\d+)+\n  flow B( -?\d+)* 0\n  instant   A +B\n(  \d+ +-?\d+ +-1\n)*  \d+ \(fails\) +-?\d+ +0\n")
             said = ran("sigc-prove", written(folder, "p.sig", LATE), "--never-ends")
-            self.assertRegex(said.stdout, r"\n  1         -?\d+\n  2 \(fails\) -?\d+\n$")
+            self.assertRegex(said.stdout, r"\n  1 +-?\d+\n(  \d+ +-?\d+\n)*  \d+ \(fails\) +-?\d+\n$")
 
     def test_operations_without_names(self):
         with tempfile.TemporaryDirectory() as folder:
@@ -197,15 +305,90 @@ class Claims(unittest.TestCase):
             self.assertEqual((said.stdout, said.returncode), ("proved: never ends\n", 0))
             step = smt_formulas.Step(image_of(path))
             until = time.monotonic() + 300
-            self.assertEqual(deciding.System(step, [], {"A": (0, 50)}, {0: (0, 50007)}).intervals(until), ["(<= 0 m0 50007)"])
-            self.assertEqual(deciding.System(step, [], {"A": (0, 50)}, {0: (0, 50006)}).intervals(until), [])
+            self.assertEqual(induction.kept(systems.System(step, [], {"A": (0, 50)}), ["(<= 0 m0 50007)"], until), ["(<= 0 m0 50007)"])
+            self.assertEqual(induction.kept(systems.System(step, [], {"A": (0, 50)}), ["(<= 0 m0 50006)"], until), [])
+
+    def test_deep_faults(self):
+        """What breaks late is found, by drawn flows and by one question of many instants; how far a search came is said."""
+        with tempfile.TemporaryDirectory() as folder:
+            path, deep = written(folder, "p.sig", CROSSING), written(folder, "q.sig", DEEP)
+            said = ran("sigc-prove", path, "--never", "WALK and ((CARS $ init 0) = 0)", "--seconds", SECONDS)
+            self.assertIn("broken at instant 22\n", said.stdout)
+            self.assertIn("broken at instant 450\n", ran("sigc-prove", deep, "--never", "N = 450", "--seconds", SECONDS).stdout)
+            said = ran("sigc-prove", written(folder, "r.sig", HARD), "--never", "Y = 1000003", "--seconds", "4")
+            self.assertRegex(said.stdout, r"^unknown: never Y = 1000003 \(4 s, in which no.* it; --seconds N gives it more\)\n$")
+            step = smt_formulas.Step(image_of(deep), [property_language.property_of("N = 25", {"N": "integer"})])
+            system = systems.System(step, [], {})
+            formula = system.broken(systems.Claim("", step.watched[0].broken(False), "true", False))
+            until = time.monotonic() + 200
+            self.assertEqual([searching.unrolled(system, formula, depth, until) is None for depth in (24, 25)], [True, False])
+            self.assertEqual(len(searching.unrolled(system, formula, 60, until).flows["E"]), 25)
+
+    def test_delays_written_twice(self):
+        """Equal delays are one memory, also through copies and in a property."""
+        with tempfile.TemporaryDirectory() as folder:
+            path = written(folder, "p.sig", TWICE)
+            image = equal_memories.merged(image_of(path))
+            self.assertEqual([it.init for it in image.memories], [0, 5, 0])
+            self.assertEqual(sum(it.kind == "Store" for it in image.operations), 3)
+            self.assertEqual(ran("sigc-prove", path, "--never-ends", "--always", "D = 0", "--seconds", SECONDS).stdout, "proved: always D = 0\nproved: never ends\n")
+            kinds = {it.name: it.kind for it in image.signals}
+            step = smt_formulas.Step(image, [property_language.property_of(it, kinds) for it in ("X > X $ init 0", "X > X $ init 5", "X > X $ init 6")])
+            self.assertEqual([it.name for it in step.memories], ["m0", "m1", "m2", "q3"])
+
+    def test_a_controller_with_an_integral(self):
+        with tempfile.TemporaryDirectory() as folder:
+            said = ran("sigc-prove", written(folder, "p.sig", CRUISE), "--never-ends", "--range", "SPEED=0..300", "--seconds", "600")
+            self.assertEqual(said.stdout, "proved: never ends\n")
 
     def test_nothing_is_left(self):
         with tempfile.TemporaryDirectory() as folder:
             said = ran("sigc-prove", written(folder, "p.sig", COUNTER), "--assume", "B and not B", "--never", "B", "--never-ends")
-            told = "note: no flows meet what is assumed, so all that is claimed holds\n"
+            told = "note: no instant of any flows meets what is assumed, so all that is claimed of instants holds\n"
             told += "".join(f"proved (nothing is left to prove it of): {it}\n" for it in ("never B", "never ends"))
             self.assertEqual((said.stdout, said.returncode), (told, 3))
+
+    def test_assumptions_say_nothing_of_what_a_failing_instant_does_not_compute(self):
+        """A result with more than 64 bits is none of the run, so `N < 1000` does not exclude the overflow of N."""
+        small = ["--assume", "N < 1000", "--assume", "N > -1000"]
+        with tempfile.TemporaryDirectory() as folder:
+            path, checked = written(folder, "p.sig", ADDS), written(folder, "q.sig", CHECKED)
+            for how, what in (("--never-ends", "never ends"), ("--faults", "no overflow at 1:60 (N)")):
+                said = ran("sigc-prove", path, how, *small)
+                self.assertRegex(said.stdout, rf"^false: {re.escape(what)}: end: overflow at 1:60 after \d instants\n")
+                self.assertIn("note: `N < 1000` is not assumed of the instant that fails", said.stdout)
+                self.assertEqual(ran("sigc-prove", path, how, *small, "--range", "A=-9..9").stdout, f"proved: {what}\n")
+                self.assertEqual(ran("sigc-prove", path, how, *small, "--assume", "A < 9 and A > -9").stdout, f"proved: {what}\n")
+            self.assertIn("false: never ends", ran("sigc-prove", checked, "--never-ends", "--assume", "SMALL").stdout)
+            self.assertEqual(ran("sigc-prove", checked, "--never-ends", "--assume", "A < 100").stdout, "proved: never ends\n")
+
+    def test_an_instant_that_fails_first_elsewhere(self):
+        """What is computed before the first fault is assumed, and nothing after it."""
+        with tempfile.TemporaryDirectory() as folder:
+            path = written(folder, "p.sig", FIRST)
+            said = ran("sigc-prove", path, "--faults", "--assume", "B > 0", "--assume", "Y > 0", "--range", "A=0..9")
+            self.assertEqual(answers(said.stdout), "proved proved false", said.stdout)
+            self.assertRegex(said.stdout, r"\n  1 \(fails\) +[1-9] +-?\d+\n")
+
+    def test_memories_of_properties_stay_within_64_bits(self):
+        """The memory of one claim says nothing of another one."""
+        with tempfile.TemporaryDirectory() as folder:
+            path = written(folder, "p.sig", ADDS)
+            said = ran("sigc-prove", path, "--range", "A=0..9", "--never", "((N * N) $ init 0) < 0", "--never", "N < 0", "--never", "(N * N $ init 0) < 0", "--seconds", "3")
+            self.assertIn("proved: never N < 0", said.stdout)
+            self.assertNotIn("the flows found", said.stdout)
+
+    def test_a_tied_instant_is_not_looked_at(self):
+        """Where a function ties the clocks of its operands the whole property is left out, and its memories go on."""
+        with tempfile.TemporaryDirectory() as folder:
+            path = written(folder, "p.sig", SLOW)
+            for claim, wanted in (("(A > 0 or B) default (B and not B)", "proved"), ("((A > 0 or B) default B) and ((Y $ init 5) >= 0)", "proved"), ("((A > 0 or B) default B) and ((Y $ init 5) > 0)", "false")):
+                said = ran("sigc-prove", path, "--range", "A=0..9", "--always", claim, "--seconds", SECONDS)
+                self.assertEqual(answers(said.stdout), wanted, said.stdout)
+            kinds = {"A": "integer", "B": "boolean", "Y": "integer"}
+            watched = property_language.Watched(property_language.property_of("(A > 0 or B) and Y = (Y $ init 5)", kinds))
+            self.assertRaises(property_language.Tied, watched.at, {"B": 0, "Y": 8})
+            self.assertEqual(watched.at({"A": 1, "B": 1, "Y": 8}), 1)
 
     def test_proved_claims_hold_of_runs(self):
         draws = random.Random(7)
@@ -289,7 +472,8 @@ class WhatCannotBeAsked(unittest.TestCase):
 
     @needs_z3
     def test_texts_that_are_no_properties(self):
-        for text, told in (("N +", "the end"), ("N + 1", "integer"), ("Q", "no signal"), ("N and B", "truths"), ("B $", "init"), ("(N", "wanted"), ("N ยง", "byte")):
+        for text, told in (("N $ init Q = 0", "a number"), ("N $ init true = 0", "a number"), ("B $ init 3", "true or false"), ("N $ init 9223372036854775808 = 0", "64 bits"),
+                           ("N > (1 + 2)", "constants alone"), ("N +", "the end"), ("N + 1", "integer"), ("Q", "no signal"), ("N and B", "truths"), ("B $", "init"), ("(N", "wanted"), ("N ยง", "byte")):
             said = self.said("--always", text)
             self.assertEqual((said.returncode, told in said.stderr), (3, True), (text, said.stderr))
         self.assertEqual(self.said("--range", "N=3").returncode, 3)

@@ -2,6 +2,7 @@
 import os
 import shutil
 import tempfile
+import time
 import unittest
 import unittest.mock
 
@@ -44,7 +45,47 @@ class OneRun(unittest.TestCase):
 
     def test_a_run_that_writes_another_text_is_told(self):
         with unittest.mock.patch.object(measures, "run", lambda words, workers, capacity: (1, str(workers))):
-            self.assertRaises(measures.Differing, measures.table_of, ["P", "F"], 2)
+            self.assertRaises(measures.Differing, measures.table_of, ["P", "F"], measures.Plan((32,), (1,), 1, 1))
+
+    def test_a_measurement_fits_into_its_time(self):
+        """By how long one run takes: five turns of all ways, fewer turns, fewer ways, runs without workers alone."""
+        with unittest.mock.patch("os.cpu_count", lambda: 4):
+            self.assertEqual(measures.planned(0.5, 4, 60), measures.Plan((32, 64, 256), (1, 2, 4), 5, 45))
+            self.assertEqual(measures.planned(1, 4, 59), measures.Plan((32, 64, 256), (1, 2, 4), 3, 54))
+            self.assertEqual(measures.planned(2, 4, 58), measures.Plan((64,), (1, 2, 4), 4, 48))
+            self.assertEqual(measures.planned(6, 4, 54), measures.Plan((64,), (4,), 4, 48))
+            self.assertEqual(measures.planned(20, 4, 40), measures.Plan((64,), (4,), 1, 40))
+            self.assertEqual(measures.planned(25, 4, 35), measures.Plan((), (), 1, 25))
+            self.assertEqual(measures.planned(0.01, 4, 60), measures.Plan((), (), 5, 0.05))
+            for once in (0.01, 0.3, 1, 3, 7, 13, 29):
+                self.assertLessEqual(measures.planned(once, 4, 60 - once).seconds, 60 - once)
+
+    def test_it_says_before_how_long_it_takes(self):
+        done = ran("sigc-run", f"{EXAMPLES}/sum.sig", f"{EXAMPLES}/sum.flows", "--measure")
+        self.assertEqual(done.stderr, "sigc-run: this takes some 1 s: 5 runs without workers\n")
+
+    def test_turns_end_with_the_time(self):
+        """Workers that take longer than the run without them end the measurement early, and not late."""
+        at, spent = [0.0], []
+
+        def run(words, workers, capacity):
+            at[0] += 10 if workers else 1
+            spent.append(workers)
+            return (10 if workers else 1), "same"
+
+        with unittest.mock.patch.object(measures, "run", run), unittest.mock.patch.object(measures.time, "monotonic", lambda: at[0]):
+            table, alone = measures.table_of(["P", "F"], measures.Plan((64,), (2,), 5, 10), 30)
+        self.assertEqual((spent, table, alone), ([0, 2] * 3, {(64, 2): 10}, 1))
+
+    def test_a_run_that_is_too_long_to_measure(self):
+        with tempfile.TemporaryDirectory() as room:
+            slow = written(room, "slow", "#!/bin/sh\n[ $1 = code ] && echo actor 0\n[ $1 = run ] && exec sleep 20\nexit 0\n")
+            os.chmod(slow, 0o700)
+            with unittest.mock.patch.dict(os.environ, {"SIGC": slow}):
+                begun = time.monotonic()
+                done = ran("sigc-run", *WATCH, "--measure", "--seconds", "1")
+        self.assertEqual((done.stdout, done.stderr, done.returncode), ("", "sigc-run: one run takes more than 1 s: measure a part of it with --instants N, or give more time with --seconds N\n", 1))
+        self.assertLess(time.monotonic() - begun, 15)
 
     def test_the_table_of_what_workers_gain(self):
         table = {(capacity, workers): 1 / workers for capacity in measures.CAPACITIES for workers in (1, 2)}

@@ -10,6 +10,7 @@ from helping import NEEDS_SIGC, TOOLS, only_with, program
 from test_wrong import line_of, rows_of
 
 from sigc.call import compiler
+from sigc.read import plain_kernels
 
 HEAD = "process P = (? integer A; boolean B ! integer Y)\n"
 DEAD = f"{HEAD}(| Y := (A when B) + (A when not B)\n | A ^= B\n |);\n"
@@ -52,8 +53,9 @@ def kind_of(said):
 @only_with(shutil.which("vim"), "vim is not installed: its test is left out")
 class Make(unittest.TestCase):
     def test_every_kind_of_refusal(self):
+        """Of a program that may be no kernel the front end speaks."""
         sigc = compiler.Sigc(program())
-        texts = {kind_of(fields["said"]): text for _, fields, text in rows_of("programs.txt")[1] if fields["said"] != "accepted"}
+        texts = {kind_of(fields["said"]): text for _, fields, text in rows_of("programs.txt")[1] if fields["said"] != "accepted" and plain_kernels.is_plainly_kernel(text)}
         texts |= {str(at): it for at, it in enumerate((DEAD, MANY, LONG))}
         files = {f"p{at:02}.sig": it for at, it in enumerate(texts.values())}
         wanted = {}
@@ -61,7 +63,7 @@ class Make(unittest.TestCase):
             said = line_of(sigc.check(text))
             place, text = re.fullmatch(r"error(?: (\d+:\d+))?: (.*)", said).groups()
             wanted[name] = f"{place or '1:1'} e {text}"
-        self.assertGreater(len(files), 14)
+        self.assertGreater(len(files), 11)
         self.assertEqual(vim_over(files, program()), wanted)
 
     def test_no_program_to_run(self):

@@ -9,7 +9,7 @@ from helping import EXAMPLES, NEEDS_SIGC, program, ran
 from sigc.call import compiler
 from sigc.hints import gathered
 from sigc.read import editing, shown_places, syntax
-from sigc.why import causes, changed_signals, least_part, loops, mending
+from sigc.why import causes, changed_signals, least_part, loops, mending, unreached, weighed
 
 LIMITER = """% A ramp with a limiter. %
 process RAMP = (? boolean TICK; integer A ! integer Y)
@@ -167,7 +167,9 @@ class Causes(unittest.TestCase):
         refusal = self.sigc.check(text)
         self.assertEqual(refusal.text, "clock of SHIFT is not determined")
         self.assertEqual(gathered.hint_of(text, syntax.read(text), refusal).lines, ["SHIFT is made of its own past: say when it comes, as SHIFT ^= when LINE"])
-        self.assertTrue(self.mend(text).words.startswith("the clock equation SHIFT ^= when LINE; "))
+        mend = self.mend(text)
+        self.assertTrue(mend.words.startswith("the clock equation SHIFT ^= LINE; then sigc says `condition LINE is forced`, and SHIFT keeps its value"))
+        self.assertEqual(list(unreached.unreached_parts(mend.text, syntax.read(mend.text).processes[0])), [])
 
     def test_loops(self):
         (process,) = syntax.read(BYTES.format("")).processes
@@ -177,20 +179,22 @@ class Causes(unittest.TestCase):
     def test_two_inputs_that_come_by_themselves(self):
         text = "process LIFT = (? integer POS; boolean B ! integer LAST; boolean ASKED)\n(| LAST := POS + 1\n | ASKED := B or (B $ init false)\n |);\n"
         one, other = mending.mends_of(self.sigc, text, 2)
-        self.assertIn("(? boolean POS_COMES, B_COMES; integer POS; boolean B !", one.text)
+        self.assertIn("(? boolean POS_COMES; integer POS; boolean B_COMES, B !", one.text)
         self.assertIn(" | POS_COMES ^= B_COMES\n | POS ^= when POS_COMES\n | B ^= when B_COMES\n |);", one.text)
         self.assertEqual(other.words, "the clock equation POS ^= B")
 
     def test_two_inputs_that_are_merged(self):
         text = "process P = (? integer A; event B ! boolean C; integer Y)\n(| Y := A + 1\n | C := B default (false when ^A)\n |);\n"
-        self.assertIn(" | A_COMES ^= B_COMES\n | A ^= when A_COMES\n | B ^= when B_COMES\n", self.mend(text).text)
+        mended = self.mend(text).text
+        self.assertIn("(? boolean A_COMES; integer A; boolean B !", mended)
+        self.assertIn(" | C := (when B) default (false when ^A)\n | A_COMES ^= B\n | A ^= when A_COMES\n", mended)
         self.assertIn("two boolean inputs that come together tell which does", gathered.hint_of(text, syntax.read(text), self.sigc.check(text)).lines[0])
 
     def test_events_that_are_all_asked(self):
         text = "process P = (? event A, B, C ! event E; integer N)\n(| N := ((ZN + 5) when A) default ((ZN + 10) when B) default ((ZN - 15) when E) default ZN\n | ZN := N $ init 0\n | E := C when (ZN >= 15)\n |)\nwhere integer ZN; end;\n"
         mended = self.mend(text).text
-        for equation in ("A_COMES ^= B_COMES", "A ^= when A_COMES", "B ^= when B_COMES", "C_COMES ^= A_COMES", "C ^= when C_COMES", "N ^= C_COMES"):
-            self.assertIn(f" | {equation}\n", mended)
+        self.assertIn("(? boolean A, B, C !", mended)
+        self.assertIn(" | E := (when C) when (ZN >= 15)\n", mended)
 
     def test_mends_that_begin_in_different_ways_come_first(self):
         text = "process P = (? integer A, B, C ! integer Y, Z, W)\n(| Y := A | Z := B | W := C |);\n"
@@ -201,7 +205,7 @@ class Causes(unittest.TestCase):
         text = "process P = (? boolean B; integer A ! integer Y)\n(| Y := A when B |);\n"
         one, other = mending.mends_of(self.sigc, text, 2)
         self.assertEqual(one.words, "the clock equation B ^= A")
-        self.assertIn("(? boolean B_COMES, A_COMES, B; integer A !", other.text)
+        self.assertIn("(? boolean B_COMES, B, A_COMES; integer A !", other.text)
 
     def test_an_input_that_a_boolean_was_to_tell(self):
         for kind in ("event", "boolean"):
@@ -218,26 +222,28 @@ class Causes(unittest.TestCase):
             ("event CLICKED; integer N", ["N := (N $ init 0) + 1", "CLICKED := CLICK when (N > 3)", "M := TICK cell CLICK init true"], "where boolean M; end"),
         ]:
             text = f"process MOUSE = (? event TICK, CLICK ! {outputs})\n(| {' | '.join(equations)} |)\n{locals_};\n"
-            first, *others = mending.mends_of(self.sigc, text, 6)
-            self.assertIn("| TICK_COMES ^= CLICK_COMES | TICK ^= when TICK_COMES | CLICK ^= when CLICK_COMES", first.text)
-            self.assertTrue(others)
+            first = self.mend(text)
+            self.assertIn("(? boolean TICK, CLICK !", first.text)
+            self.assertIn("| TICK ^= CLICK", first.text)
 
     def test_how_much_a_mend_leaves_to_change(self):
-        before = syntax.read("process P = (? event A, B ! boolean Y)\n(| Y := A default (false when B) |);").processes[0]
+        before = "process P = (? event A, B ! boolean Y)\n(| Y := A default (false when B) |);"
         mended = "process P = (? boolean C, D; event A, B ! boolean Y)\n(| Y := A default (false when B) | C ^= D | A ^= when C | B ^= when D |);"
-        self.assertEqual(changed_signals.change(self.sigc, mended, before), (0, 1, 1))
-        self.assertEqual(changed_signals.change(self.sigc, "process P = (? event A, B ! boolean Y)\n(| Y := A default (false when B) | A ^= B |);", before), (-1, 0, 0))
+        self.assertEqual(weighed.weight_of(self.sigc, before, mended).key(), (0, 0, 0, 1, 1))
+        self.assertEqual(weighed.weight_of(self.sigc, before, "process P = (? event A, B ! boolean Y)\n(| Y := A default (false when B) | A ^= B |);").key(), (-1, 0, 0, 0, 0))
         self.assertEqual([changed_signals.is_changing("boolean", it) for it in ([], ["true"] * 9, ["true", None], ["true", "false"])], [False, False, False, True])
         self.assertEqual([changed_signals.is_changing("event", it) for it in (["true"] * 9, ["true", None])], [False, True])
 
     def test_the_two_sides_of_a_counter(self):
         text = "process P = (? event UP, DOWN ! integer N)\n(| N := ((N $ init 0) + 1 when UP) default ((N $ init 0) - 1 when DOWN) |);\n"
-        self.assertIn("| N ^= UP ^+ DOWN", self.mend(text).text)
+        mended = self.mend(text).text
+        self.assertIn("(? boolean UP, DOWN !", mended)
+        self.assertIn("| UP ^= DOWN | N ^= (when UP) ^+ (when DOWN)", mended)
 
     def test_three_roots(self):
         self.assertIsNone(self.sigc.check(self.mend("process P = (? integer A, B, C ! integer Y)\n(| Y := A |);\n").text))
         mended = self.mend("process P = (? integer A, B, C ! integer Y, Z, W)\n(| Y := A | Z := B | W := C |);\n").text
-        self.assertIn("(? boolean C_COMES, A_COMES, B_COMES; integer A, B, C !", mended)
+        self.assertIn("(? boolean A_COMES, B_COMES, C_COMES; integer A, B, C !", mended)
 
     def test_an_event_as_a_reset(self):
         text = "process P = (? event TICK, RESET ! integer N)\n(| N := (0 when RESET) default (ZN + 1)\n | ZN := N $ init 0\n | N ^= TICK\n |)\nwhere integer ZN; end;\n"
@@ -250,11 +256,15 @@ class Causes(unittest.TestCase):
 
     def test_a_slower_operand_is_held(self):
         text = "process P = (? integer A; boolean ASK; integer T ! integer Y)\n(| A ^= ASK\n | T ^= when ASK\n | Y := A + T\n |);\n"
-        self.assertIn("A + (T cell ^A init 0)", self.mend(text).text)
+        first, other, *_ = (it.text for it in mending.mends_of(self.sigc, text, 3))
+        self.assertIn("A + (T default (0 when ^A))", first)
+        self.assertIn("A + (T cell ^A init 0)", other)
+        self.assertIn("A > (T cell ^A init 0)", self.mend(text.replace("A + T", "A > T").replace("integer Y", "boolean Y")).text)
 
     def test_a_case_that_is_left_out(self):
         text = "process P = (? boolean R ! integer AGE)\n(| AGE := (0 when R) default ((ZAGE + 1) when not FULL)\n | ZAGE := AGE $ init 0\n | FULL := ZAGE >= 3\n | AGE ^= R\n |)\nwhere integer ZAGE; boolean FULL; end;\n"
-        self.assertEqual(self.mend(text).words, "without the condition not FULL of the last default")
+        self.assertEqual(self.mend(text).words, "AGE keeps its value, ZAGE, where no condition of it is true")
+        self.assertIn("without the condition not FULL of the last default", [it.words for it in mending.mends_of(self.sigc, text, 3)])
 
     def test_a_cycle(self):
         text = "process P = (? integer A ! integer X, Y)\n(| X := Y + 1\n | Y := X - 1\n | X ^= A\n |);\n"

@@ -12,7 +12,7 @@ from sigc.editor import documents
 from sigc.read import editing
 
 FOLDER = os.path.join(os.path.dirname(os.path.realpath(__file__)), "wrong")
-PROGRAMS, FLOWS, WITHOUT_HINT = 47, 18, 2
+PROGRAMS, FLOWS, WITHOUT_HINT = 56, 18, 2
 WHOLE = {"start": {"line": 0, "character": 0}, "end": {"line": 9999, "character": 0}}
 
 
@@ -74,9 +74,12 @@ class Programs(unittest.TestCase):
                     self.assertIn(fields["mend"], mends[0])
 
     def test_each_action_of_an_editor_is_accepted(self):
+        """Of a program that is no kernel the front end speaks, which takes it or says what it lacks."""
         for title, fields, text in self.rows:
             with self.subTest(title):
                 document = documents.Document("file:///p.sig", text, self.sigc)
+                if not document.wider.is_kernel:
+                    continue
                 self.assertTrue(fields["said"] == "accepted" or document.diagnostics()[0]["message"])
                 mended = [self.changed(document, it) for it in document.actions(WHOLE)]
                 self.assertEqual([line_of(self.sigc.check(it)) for it in mended], ["accepted"] * len(mended))

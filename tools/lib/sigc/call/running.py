@@ -12,7 +12,9 @@ import sys
 import tempfile
 import threading
 
+from sigc.call import opened
 from sigc.call.compiler import NO_DASH
+from sigc.call.refusing import Refused
 from sigc.places import TOP
 from sigc.read import files_read, lexer
 
@@ -20,14 +22,9 @@ from sigc.read import files_read, lexer
 OF_BUILD = re.compile(r"sigc: (?!no program|the program is older)")
 TOLD = set()
 NO_PROGRAM = 70
-
-
-class Refused(Exception):
-    """What a script ends with where it cannot go on: a line for standard error, and a status."""
-
-    def __init__(self, line, status=1):
-        super().__init__(line)
-        self.line, self.status = line, status
+PLACED = re.compile(r".*:\d+:\d+.*: error: ")
+# So much of a name a copy has in its own, beside a number; a file system takes names of 255 bytes.
+LONGEST = 100
 
 
 def program():
@@ -101,10 +98,11 @@ def output_of(*words):
 
 class Files:
     """A folder for the files of one script. Each file that the user names is read once, so it may be a pipe, and
-    sigc is given a copy; what sigc says of the copy is said of the name that the user gave."""
+    sigc is given a copy; what sigc says of the copy is said of the name that the user gave. include has the folders in which
+    modules of a program are looked for, besides its own."""
 
-    def __init__(self):
-        self.folder, self.names = tempfile.mkdtemp(prefix="sigc-tools-"), {}
+    def __init__(self, include=()):
+        self.folder, self.names, self.include = tempfile.mkdtemp(prefix="sigc-tools-"), {}, include
 
     def __enter__(self):
         return self
@@ -118,7 +116,7 @@ class Files:
 
     def written(self, name, text, called=None):
         """The path of a new file with this text."""
-        made = f"{self.folder}/{len(self.names)}-{name}"
+        made = f"{self.folder}/{len(self.names)}-{name[-LONGEST:]}"
         with open(made, "w", encoding="latin-1", newline="") as it:
             it.write(text)
         self.names[made] = called or name
@@ -132,10 +130,12 @@ class Files:
 
 
 class Program:
-    """A program's text, and what sigc answers about it, with the user's name of its file."""
+    """A program's kernel, and what sigc answers about it, with the user's name of its file; home leads from the kernel to
+    the user's text."""
 
     def __init__(self, files, path):
-        self.files, self.text = files, program_text(path)
+        self.files, self.home = files, opened.Opened(path, program_text(path), files.include)
+        self.text = self.home.text
         self.path = files.copied(path, self.text)
 
     def asked(self, command, *words):
@@ -143,7 +143,7 @@ class Program:
         try:
             return output_of(command, self.path, *words)
         except Refused as refusal:
-            raise Refused(self.files.renamed(refusal.line), refusal.status) from None
+            raise Refused(self.home.refusal(self.files.renamed(refusal.line)), refusal.status) from None
 
 
 def program_text(path):
@@ -178,7 +178,7 @@ def started(name, main):
         status = main()
         sys.stdout.flush()
     except Refused as refusal:
-        print(refusal.line if refusal.line.startswith(("error", "end:")) else f"{name}: {refusal.line.removeprefix('sigc: ')}", file=sys.stderr)
+        print(refusal.line if refusal.line.startswith(("error", "end:")) or PLACED.match(refusal.line) else f"{name}: {refusal.line.removeprefix('sigc: ')}", file=sys.stderr)
         status = refusal.status
     except lexer.Unreadable as error:
         print(f"{name}: {error}", file=sys.stderr)

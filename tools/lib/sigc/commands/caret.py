@@ -19,9 +19,12 @@ Words of its own, before or behind the command's:
 
     --explain   shows the entry of docs/errors.md itself
     --lint      warns of what sigc takes and was hardly meant: a local or a process that is not used, a boolean input
-                that nothing asks, a comparison that is written twice, an input that comes where a comparison is true,
+                that nothing asks, a comparison that is written twice where clocks differ by it, an input that comes where a comparison is true,
                 an operand that comes more rarely than the one beside it, a condition that is never true as `not E` of
                 an event, a side of a `default` that is never taken
+    -I DIR      names a folder with modules that the program uses
+
+A program that is no kernel but has constants, arrays, cases and the like is expanded (docs/signal.md).
 
 The program is the file that the variable SIGC names, or else the script ./sigc at the top of the repository. The
 commands of sigc are told by tools/sigc --help.
@@ -39,7 +42,7 @@ from sigc.hints import all_advice, file_lines, warnings
 from sigc.hints.entries import anchor, entry_of
 from sigc.image import image_text, images
 from sigc.places import TOOLS, TOP
-from sigc.read import files_read, flat_bodies, lexer, shown_places, syntax
+from sigc.read import files_read, flat_bodies, lexer, plain_kernels, shown_places, syntax
 from sigc.why import causes
 
 COMMANDS = ("check", "tree", "code", "print", "judge", "run", "play", "build", "exec")
@@ -138,7 +141,7 @@ class Shown:
         for it in [] if self.mends else self.advice.mends(refusal, 2 if told and told.sort == "root" else 1):
             self.mends.append(it.text)
             words = f" {it.words}" if it.words not in hint.lines else ""
-            lines += [f"mend, accepted by check:{words}", *shown_places.changes(self.text, it.text).splitlines()]
+            lines += [f"mend, accepted by check:{words}", *shown_places.changes(self.text, it.text).splitlines(), *(f"    {note}" for note in it.notes)]
         return [*lines, f"{beside('sigc-why')} {self.program} --mends 3 shows further mends"] if told else lines
 
     def of_pace(self, refusal):
@@ -266,7 +269,7 @@ def copied(words, room):
     names = {}
     for it in plain_words(words):
         if it not in names and os.path.exists(it) and not os.path.isfile(it) and not os.path.isdir(it):
-            names[it] = f"{room}/{len(names)}-{os.path.basename(it)}"
+            names[it] = f"{room}/{len(names)}-{os.path.basename(it)[-100:]}"
             with open(it, "rb") as pipe, open(names[it], "wb") as copy:
                 left = files_read.MOST_BYTES + 1
                 while left and (piece := pipe.read(min(left, PIECE))):
@@ -283,19 +286,36 @@ def renamed(text, names):
 
 
 def main():
-    words, flags = own_words(sys.argv[1:])
+    words, include = included(sys.argv[1:])
+    words, flags = own_words(words)
     if not words or words[0] in ("--help", "-h"):
         print(__doc__.strip())
         return 0
     with tempfile.TemporaryDirectory(prefix="sigc-tools-") as room:
-        return called(*copied(words, room), flags)
+        return called(*copied(words, room), flags, include)
 
 
-def called(words, names, flags):
+def included(words):
+    """The words without `-I DIR`, and these folders, in which modules are looked for."""
+    found, rest, words = [], [], list(words)
+    while words:
+        it = words.pop(0)
+        if it == "-I" and words:
+            found.append(words.pop(0))
+        else:
+            rest.append(it)
+    return rest, found
+
+
+def called(words, names, flags, include=()):
     """Calls sigc with these words, shows what it says, and gives its status."""
     path = os.environ.get("SIGC") or f"{TOP}/sigc"
     command = words[0] if words[0] in COMMANDS else ""
-    shown = Shown(path, plain_words(words) if command else [], command, flags + [it for it in words if it == "--pace"])
+    plain = plain_words(words) if command else []
+    status = expanded(path, command, words, plain, include, names) if plain and command != "exec" and "--pace" not in words else None
+    if status is not None:
+        return status
+    shown = Shown(path, plain, command, flags + [it for it in words if it == "--pace"])
     try:
         ran = subprocess.Popen([path, *words], stderr=subprocess.PIPE)
     except OSError as error:
@@ -306,6 +326,15 @@ def called(words, names, flags):
     status = ran.wait()
     sys.stderr.write(renamed(shown.warned(status), names))
     return status if status >= 0 else 128 - status
+
+
+def expanded(path, command, words, plain, include, names):
+    """Calls sigc on a program that is no kernel, and gives the status; None where it is one."""
+    if plain_kernels.is_plainly_kernel(text_of(plain[0], files_read.PROGRAM_BYTES)):
+        return None
+    from sigc.expand import calling
+
+    return calling.called(path, command, words, plain, include, lambda it: sys.stderr.write(renamed(it, names)))
 
 
 def start():

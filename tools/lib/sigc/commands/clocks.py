@@ -9,30 +9,32 @@ else B` where A or B comes whenever they do. A clock of the compiler alone is le
 """
 import argparse
 
-from sigc.call import running
+from sigc.call import opened, running
 from sigc.clocks import clocks_in_words
 from sigc.clocks.laid_out import Laid
 from sigc.trace import traces
 
 
-def lines_of(classes, clocks):
+def lines_of(classes, clocks, home):
     for depth, signals in zip(classes.depths, classes.signals):
-        if signals:
-            yield f"{'  ' * depth}{' '.join(signals)}: {clocks.words(signals[0])}"
+        known = [home.name(it) for it in signals if home.is_known(it)]
+        if known:
+            yield f"{'  ' * depth}{' '.join(known)}: {home.words(clocks.words(signals[0]))}"
 
 
 def main():
     words = argparse.ArgumentParser(prog="sigc-clocks", description=__doc__, formatter_class=argparse.RawDescriptionHelpFormatter)
     words.add_argument("program", metavar="PROGRAM", help="the file of a program")
     words.add_argument("--pace", action="store_true", help=traces.PACE_HELP)
+    opened.add_include(words)
     words = words.parse_args()
-    with running.Files() as files:
+    with running.Files(words.include) as files:
         laid = Laid(files, words.program, words.pace)
         try:
             clocks = clocks_in_words.of_laid(laid)
         except running.Refused as refusal:
             raise running.Refused(files.renamed(refusal.line), refusal.status) from None
-        for line in lines_of(laid.classes, clocks):
+        for line in lines_of(laid.classes, clocks, laid.program.home):
             print(line)
     return 0
 

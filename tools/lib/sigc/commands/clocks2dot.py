@@ -78,7 +78,7 @@ def drawn(words):
         return code_graph(plans.Code(lines), None, names) if is_code else tree_graph(plans.Classes(lines), names)
     with running.Files() as files:
         laid = laid_out.Laid(files, path, words.pace)
-        names = picture_names.Names(laid.flat, words.all)
+        names = picture_names.Names(laid.flat, words.all, laid.program.home)
         if words.tree:
             return list(tree_graph(laid.classes, names, clocks_of(laid)))
         return list(code_graph(plans.Code(laid.program.asked("code", *pace_flag.words_of(words.pace))), laid.classes, names))

@@ -20,16 +20,30 @@ INNER = """#!/bin/sh
 # What the scripts take for ./sigc where they are installed.
 program=$(dirname "$(readlink -f "$0")")/program
 if [ "$*" = --which ]; then echo "$program"; exit; fi
+if [ "$*" = --version ]; then
+    proved='every crate was proved'
+    [ ! -e "$(dirname "$program")/unproved" ] || proved='nothing was proved of this program'
+    echo "sigc: installed $(date -r "$program" '+%Y-%m-%d %H:%M'), $proved"
+    exit
+fi
 exec "$program" "$@"
 """
 DOOR = """#!/bin/sh
 # sigc as it is installed: the program, and for who has no command of it yet the way to them.
 library=$(cd "$(dirname "$(readlink -f "$0")")/../lib/sigc" && pwd) || exit 70
+# At a terminal what is refused is explained; SIGC_PLAIN=1 is the program and nothing else.
+explained() {
+    [ -t 2 ] && [ "${SIGC_PLAIN:-}" != 1 ] && [ "${1-}" != load ]
+}
 case "$*" in
+--version) "$library/sigc" --version; exit ;;
 help | --help | -h)
     [ ! -e "$library/unproved" ] || echo 'sigc: nothing was proved of this program' >&2
     exec python3 "$library/tools/sigc" --help ;;
 esac
+if explained "$@"; then
+    SIGC=$library/program exec python3 "$library/tools/sigc-caret" "$@"
+fi
 case "${1-}" in
 @COMMANDS@) exec "$library/program" "$@" ;;
 esac

@@ -10,16 +10,16 @@ server builds none.
 """
 import argparse
 import json
-import re
 import sys
 
 from sigc.call import compiler
 from sigc.editor import inlays, links
 from sigc.editor.documents import Document
+from sigc.editor.messages import Messages
 from sigc.editor.workspaces import Workspace
 
 CAPABILITIES = {
-    "textDocumentSync": {"openClose": True, "change": 1},
+    "textDocumentSync": {"openClose": True, "change": 2},
     "hoverProvider": True,
     "definitionProvider": True,
     "referencesProvider": True,
@@ -32,9 +32,6 @@ CAPABILITIES = {
     "inlayHintProvider": True,
     "workspaceSymbolProvider": True,
 }
-# No message of an editor is longer.
-MOST_BYTES, MOST_HEADER = 64 << 20, 1 << 16
-LENGTH = re.compile(r"[0-9]{1,8}")
 PARSE_ERROR, NO_METHOD, BAD_WORDS, FAILED = -32700, -32601, -32602, -32803
 
 
@@ -42,7 +39,7 @@ class Server:
     """One conversation with an editor."""
 
     def __init__(self, read, write):
-        self.read, self.write = read, write
+        self.messages, self.write = Messages(read), write
         self.documents, self.workspace, self.sigc, self.is_over = {}, Workspace(), None, False
         self.requests = {
             "initialize": self.initialize,
@@ -84,7 +81,7 @@ class Server:
 
     def changed(self, words):
         document = self.document(words)
-        document.change(words["contentChanges"][-1]["text"])
+        document.change(words["contentChanges"])
         self.publish(document)
 
     def closed(self, words):
@@ -103,26 +100,6 @@ class Server:
 
     def notify(self, method, words):
         self.send({"method": method, "params": words})
-
-    def receive(self):
-        """The next message; None at the end, and {} where it is none."""
-        length = None
-        while True:
-            line = self.read.readline(MOST_HEADER)
-            if not line:
-                return None
-            name, _, value = line.decode("latin-1").partition(":")
-            if name.lower() == "content-length" and LENGTH.fullmatch(value.strip()):
-                length = int(value)
-            if not line.strip():
-                break
-        if (length or 0) > MOST_BYTES:
-            return None
-        try:
-            message = json.loads(self.read.read(length or 0).decode("utf-8"))
-        except (ValueError, RecursionError):
-            return {}
-        return message if isinstance(message, dict) else {}
 
     def answer(self, message):
         """Answers a request, or takes a notice."""
@@ -145,7 +122,7 @@ class Server:
     def serve(self):
         """Answers until the editor ends it: status 0 where it said so before, else 1."""
         while True:
-            message = self.receive()
+            message = self.messages.following()
             if message is None or message.get("method") == "exit":
                 return 0 if self.is_over else 1
             self.answer(message)
@@ -157,7 +134,7 @@ def attempted(call, words):
         return call(words), None
     except (KeyError, IndexError, TypeError, AttributeError) as error:
         return None, {"code": BAD_WORDS, "message": f"these parameters are not right: {error!r}"}
-    except (ValueError, compiler.NoProgram, OSError) as error:
+    except (ValueError, RecursionError, OverflowError, compiler.NoProgram, OSError) as error:
         return None, {"code": FAILED, "message": str(error)}
 
 

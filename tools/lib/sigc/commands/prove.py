@@ -8,7 +8,21 @@ A property is an expression of the language over the signals of the program, tho
 says that E is true whenever it comes, `--never E` that it is not, `--never-ends` that no operation overflows or divides by
 zero, `--range A=0..100` that the values of A lie there, or, of an input, that its flow keeps to it. Without any, the boolean
 outputs that the program names in comments `%assert B%`, one a comment, are claimed, and with --all all boolean outputs. A
-property whose own arithmetic overflows is broken there.
+property whose own arithmetic overflows is broken there. An instant at which operands of a property do not come together is
+not looked at, which is said.
+
+Claims are about instants that are committed: in these each value is one of the run. `--assume B` leaves out runs in which B is
+false at an instant that is committed. In an instant that fails, which only --never-ends and --faults are about, a run
+computes what stands before the operation that fails, in the order of the image, and nothing else. So B counts there if all of
+its signals stand before that operation, and else nothing is assumed: the result that overflowed is no value of the run, so
+`N < 1000` says nothing of it. What is proved so holds of each run that meets the assumptions as far as it has values.
+
+With --cover FOLDER, the folder of the program, the flow files that stand there are run, and for all that they do not reach
+(as sigc-run --cover tells it) flows are looked for that reach it, or it is proved that no run does. They are written into the
+folder as NAME.cover1.flows, with what sigc says of them as NAME.cover1.want. The status is 2 where something is not known.
+
+With --certify a second solver (cvc5 or cvc4 of Debian, where there is one) checks what z3 proved: that the invariant which z3
+found holds at first, that each instant keeps it, and that no instant within it breaks the claim. What was checked is said.
 
 It asks z3 (Debian's package) about the image that `sigc build` makes, operation by operation, with integers of 64 bits. A
 claim that is false is told with a flow file, after sigc has run it up to the broken instant. What is proved is z3's word on
@@ -16,24 +30,18 @@ formulas that this script makes: no proof covers them. The status is 0 where all
 where one is not decided in time, 3 where nothing could be asked, or no flows meet what is assumed.
 """
 import argparse
-import re
+import os
 import sys
 
-from sigc.call import running
-from sigc.clocks.laid_out import Laid
-from sigc.clocks.plans import is_intermediate
-from sigc.image import images, intervals, step_statements
-from sigc.image.sources import LONGEST, copy_of
-from sigc.prove import deciding, property_language, smt_formulas, z3_solver
-from sigc.prove.smt_formulas import both, either, negated
-from sigc.read import lexer, syntax
-from sigc.trace import traces
-
-UNASKED = 3
-RANGE = re.compile(r"(?P<name>[^=\s]+)=(?P<low>-?[0-9]+)\.\.(?P<high>-?[0-9]+)")
-COMMENT = re.compile(r"%([^%]*)%")
-ASSERTED = re.compile(r"\s*assert(?!\w)\s*(.*?)\s*", re.IGNORECASE | re.DOTALL)
-NAME = re.compile(r"[A-Za-z][A-Za-z0-9_]*")
+from sigc.call import opened, running
+from sigc.commands.run import pairs_of
+from sigc.image import intervals, step_statements
+from sigc.prove import certificates, counterexamples, covering, deciding, smt_formulas, systems, z3_solver
+from sigc.prove.drawn_flows import Drawing, Wanted
+from sigc.prove.counterexamples import flows_text, meets, run_of, shown
+from sigc.prove.questions import UNASKED, Asked, refused
+from sigc.read import lexer
+from sigc.trace import covered, traces
 
 
 class Claimed(argparse.Action):
@@ -56,164 +64,20 @@ class Told:
             print(f"\r{text:<78}\r{text}", end="", file=sys.stderr, flush=True)
 
 
-def refused(line):
-    return running.Refused(line, UNASKED)
-
-
-def read_ranges(words):
-    ranges = {}
-    for word in words:
-        found = RANGE.fullmatch(word)
-        if not found or int(found["low"]) > int(found["high"]):
-            raise refused(f"--range {word}: A=LOW..HIGH is wanted")
-        ranges[found["name"]] = (int(found["low"]), int(found["high"]))
-    return ranges
-
-
-class Asked:
-    """A program, the image of it, and what is claimed and assumed of it."""
-
-    def __init__(self, files, words):
-        self.files, self.words = files, words
-        self.text = running.text_of(words.program)
-        self.image, self.names = image_of(files, words)
-        self.kinds = {it.name: it.kind for it in self.image.signals}
-        self.inputs = [it.name for it in self.image.signals[: self.image.inputs]]
-        ranges = read_ranges(words.range)
-        for name in ranges:
-            if self.kinds.get(name) != "integer":
-                raise refused(f"--range {name}: this is no integer of the program")
-        self.ranges = {name: it for name, it in ranges.items() if name in self.inputs}
-        self.assumed = [self.property(it) for it in words.assume]
-        self.claimed = list(self.claims({name: it for name, it in ranges.items() if name not in self.inputs}))
-        if not self.claimed and not words.never_ends and not words.faults:
-            raise refused("nothing is claimed: --always E, --never E, --never-ends, --range A=0..9, --faults, or %assert B% in the program")
-
-    def property(self, text):
-        try:
-            made = property_language.property_of(text, self.kinds)
-        except property_language.Wrong as error:
-            raise refused(str(error)) from None
-        if made.kind == "integer":
-            raise refused(f"`{text}` is an integer, and a truth is wanted")
-        return made
-
-    def claims(self, ranges):
-        """The properties that are claimed: the words that say so, whether they are to be true, and the property."""
-        words = self.words
-        yield from ((f"{how} {it}", how == "always", self.property(it)) for how, it in words.claims)
-        for name, (low, high) in ranges.items():
-            yield f"{name} in {low}..{high}", True, self.property(f"({name} >= {low}) and ({name} <= {high})")
-        outputs = [it.name for it in self.image.signals[self.image.inputs : self.image.inputs + self.image.outputs] if it.kind != "integer"]
-        if words.all:
-            named = outputs
-        elif words.claims or ranges or words.never_ends or words.faults:
-            named = []
-        else:
-            named = self.asserted()
-        yield from ((f"always {it}", True, self.property(it)) for it in named)
-
-    def asserted(self):
-        """The signals that comments `%assert B%` name; Refused where one does not name a boolean signal alone."""
-        for comment in COMMENT.finditer(self.text):
-            found = ASSERTED.fullmatch(comment[1])
-            if found and (not NAME.fullmatch(found[1]) or self.kinds.get(found[1]) in (None, "integer")):
-                line, column = self.text.count("\n", 0, comment.start()) + 1, comment.start() - self.text.rfind("\n", 0, comment.start())
-                told = syntax.truncated(" ".join(found[1].split()), LONGEST)
-                raise refused(f"{self.words.program}:{line}:{column}: %assert wants one boolean signal, and not {told!r}")
-            if found:
-                yield found[1]
-
-
-def image_of(files, words):
-    """The image of the program, with the names of its signals; with --pace that of the program with its paces written out."""
-    path, names = files.copied(words.program, running.text_of(words.program)), {}
-    if words.pace:
-        observed = Laid(files, words.program, True).observed()
-        path = files.written("paced.sig", observed.text, words.program)
-        names = {plain: name for name, plain in observed.spelled.items()}
-    with running.Call("build", path) as call:
-        data = call.ran.stdout.read()
-        line, status = call.ended()
-    if status:
-        hint = "; with --pace its clocks may stay independent" if "no root" in line and not words.pace else ""
-        raise refused(files.renamed(line) + hint)
-    image = images.image_of(data)
-    signals = [it._replace(name=names.get(it.name, it.name)) for it in image.signals]
-    return image._replace(signals=signals), names
-
-
 def formulas(asked):
     """The system of an instant, and the claims as its formulas."""
     properties = [it for _, _, it in asked.claimed]
     step = smt_formulas.Step(asked.image, [*properties, *asked.assumed])
     of_claims, of_assumed = step.watched[: len(properties)], step.watched[len(properties) :]
-    assumed = [both(negated(it.no_value), either(negated(it.there), it.value)) for it in of_assumed]
-    claims = []
-    for (text, is_true, _), it in zip(asked.claimed, of_claims):
-        value = negated(it.value) if is_true else it.value
-        claims.append(deciding.Claim(text, either(both(it.there, value), it.no_value), either(it.there, it.no_value), False))
-    return deciding.System(step, assumed, asked.ranges, reckoned(asked)), claims, of_claims
+    claims = [systems.Claim(text, it.broken(is_true), it.comes(), False) for (text, is_true, _), it in zip(asked.claimed, of_claims)]
+    return systems.System(step, of_assumed, asked.ranges, computed(asked)), claims, of_claims
 
 
-def reckoned(asked):
-    """The intervals of the memories, as sigc-c reckons them from the ranges of inputs."""
+def computed(asked):
+    """The intervals of the memories, as sigc-c computes them from the ranges of inputs."""
     numbers = {it.name: at for at, it in enumerate(asked.image.signals[: asked.image.inputs])}
     given = {numbers[name]: it for name, it in asked.ranges.items()}
     return intervals.Ranges(step_statements.Steps(asked.image), given).memories
-
-
-def word_of(asked, name, value):
-    """A value of a signal as a flow file has it."""
-    return str(value) if asked.kinds[name] == "integer" else "true" if value else "false"
-
-
-def flows_text(asked, flows):
-    """A flow file of these values."""
-    return "".join(f"{name} {' '.join(word_of(asked, name, it) for it in flows[name])}\n" for name in asked.inputs if flows.get(name))
-
-
-def left_of(asked, flows, instants):
-    """The values that the instants have left of the flows: those of the instant that fails."""
-    taken = {name: sum(name in it for it in instants) for name in flows}
-    return {name: word_of(asked, name, flows[name][count]) for name, count in taken.items() if count < len(flows[name])}
-
-
-def run_of(asked, text):
-    """The instants of a run by sigc over a flow file, and the run, whose end is known behind them."""
-    path = asked.files.written("broken.flows", text)
-    run = traces.Run(asked.files, asked.words.program, path, ["--pace"] if asked.words.pace else [])
-    return list(run), run
-
-
-def broken_at(instants, is_true, property_):
-    """The number of the first instant that breaks a property; None where none does."""
-    watched = property_language.Watched(property_)
-    for number, instant in enumerate(instants, 1):
-        try:
-            value = watched.at(property_language.values_of(instant))
-        except property_language.NoValue:
-            return number
-        except property_language.Tied:
-            continue
-        if value is not property_language.ABSENT and bool(value) != is_true:
-            return number
-    return None
-
-
-def shown(instants, names, failing=None):
-    """The table of some signals at the instants, and at the one behind them that fails."""
-    numbers = [*map(str, range(1, len(instants) + 1)), f"{len(instants) + 1} (fails)"]
-    rows = [["instant", *names]]
-    rows += [[number, *(it.get(name, ".") for name in names)] for number, it in zip(numbers, [*instants, failing]) if it is not None]
-    widths = [max(map(len, column)) for column in zip(*rows)]
-    return ["  " + " ".join(it.ljust(width) for it, width in zip(row, widths)).rstrip() for row in rows]
-
-
-def of_target(name):
-    """The signal that an operation gives, or, of one without a name, its call."""
-    told = copy_of(name)[:-1] if is_intermediate(name) else name
-    return f" ({told})" if told else ""
 
 
 class Prover:
@@ -222,52 +86,80 @@ class Prover:
     def __init__(self, asked):
         self.asked, self.words, self.told = asked, asked.words, Told()
         self.system, self.claims, self.watched = formulas(asked)
+        self.drawing = Drawing(asked.image, asked.ranges, [(it.property, it.last) for it in self.system.assumed])
         self.worst, self.written, self.is_empty = 0, None, False
 
     def answer(self, status):
         order = {0: 0, 3: 1, 2: 2, 1: 3}
         self.worst = max(self.worst, status, key=order.get)
 
-    def decide(self, claim):
+    def decide(self, claim, wanted):
         self.told.about = claim.text
         try:
-            return deciding.decided(self.system, claim, self.words.seconds, self.told)
+            return deciding.decided(self.system, claim, self.words.seconds, self.told, lambda until: self.drawn(wanted, until))
         except z3_solver.Gone as error:
             self.told()
             print(f"note: {error}", file=sys.stderr)
-            return deciding.Verdict("unknown", None, "")
+            return deciding.Verdict("unknown")
         finally:
             self.told()
+
+    def drawn(self, wanted, until):
+        self.told("drawn flows")
+        return self.drawing.search(wanted, until)
 
     def whole(self):
         """All that is claimed."""
         if self.asked.assumed and self.may_come("true") is False:
-            print("note: no flows meet what is assumed, so all that is claimed holds")
+            print("note: no instant of any flows meets what is assumed, so all that is claimed of instants holds")
             self.is_empty = True
             self.answer(UNASKED)
+        for it in self.system.assumed:
+            self.explain_ties(it)
         for claim, (_, is_true, property_), it in zip(self.claims, self.asked.claimed, self.watched):
             self.explain_ties(it)
-            verdict = self.decide(claim)
+            verdict = self.decide(claim, Wanted(property_, is_true))
             if verdict.word == "proved":
-                self.proved(claim.text)
+                self.proved(claim, verdict)
                 if not self.is_empty and self.may_come(claim.comes) is False:
                     print("  note: it never comes")
             elif verdict.word == "false":
                 self.refute(claim, verdict, is_true, property_)
             else:
-                self.unknown(claim)
+                self.unknown(claim, verdict)
+        if self.words.cover:
+            self.answer(self.cover())
+        any_, each = self.system.ends()
         if self.words.never_ends:
-            self.end("never ends", self.system.step.fault)
+            self.end("never ends", any_)
         if self.words.faults:
-            for place, it in enumerate(self.system.step.faults):
-                before = either(*(other.when for other in self.system.step.faults[:place]))
-                self.end(f"no {it.what} at {it.line}:{it.column}{of_target(it.target)}", both(it.when, negated(before)))
+            for it, formula in zip(self.system.step.faults, each):
+                line, column = self.asked.built.place(it.line, it.column)
+                self.end(f"no {it.what} at {self.asked.home.place(line, column)}{counterexamples.of_target(self.asked.home.name(it.target))}", formula, it)
             if not self.system.step.faults:
-                self.proved("no operation can overflow or divide by zero")
+                print("proved: no operation can overflow or divide by zero")
         return self.worst
 
-    def proved(self, what):
-        print(f"proved{' (nothing is left to prove it of)' if self.is_empty else ''}: {what}")
+    def cover(self):
+        """Looks for flows that reach what the runs of a folder leave."""
+        program, folder = self.words.program, self.words.cover.rstrip("/") or "/"
+        found = covered.Covered(self.asked.files, program, self.words.pace)
+        for other, flows in pairs_of(folder):
+            if os.path.samefile(other, program):
+                found.follow(flows)
+        print("\n".join(found.lines()), flush=True)
+        return covering.Covering(self, found, folder).whole()
+
+    def proved(self, claim, verdict):
+        """Says what is proved, and with --certify what a second solver says of it."""
+        checked = certificates.certified(self.system, self.system.broken(claim), verdict.proof, self.words.seconds) if self.words.certify else None
+        if checked and checked.is_refuted:
+            print(f"unknown: {claim.text}: {checked.said}")
+        else:
+            print(f"proved{' (nothing is left to prove it of)' if self.is_empty else ''}: {claim.text}")
+        if checked and not checked.is_refuted:
+            print(f"  {checked.said}")
+        self.answer(0 if checked is None or checked.is_confirmed else 2)
 
     def may_come(self, formula):
         try:
@@ -275,49 +167,60 @@ class Prover:
         except z3_solver.Gone:
             return None
 
-    def unknown(self, claim):
-        print(f"unknown: {claim.text} ({self.words.seconds} s; --seconds N gives it more)")
+    def unknown(self, claim, verdict):
+        searched = f"none of the first {verdict.depth} instants breaks it" if verdict.depth else "no number of first instants is known not to break it"
+        print(f"unknown: {claim.text} ({self.words.seconds} s, in which {searched}; --seconds N gives it more)")
         self.answer(2)
 
     def explain_ties(self, it):
         """Says where a property compares signals that do not always come together."""
         for node, formula in it.tied:
             if self.may_come(formula) is not False:
-                text = it.property.told(node)
+                text = self.asked.home.words(it.property.told(node))
                 print(f"note: `{text}` ties the clocks of its operands, which do not always come together: where they do not, it is not looked at")
 
     def refute(self, claim, verdict, is_true, property_):
         """Tells a claim that is false, once sigc has run the flows to it."""
         text = flows_text(self.asked, verdict.flows)
-        instants, run = run_of(self.asked, text)
-        number = broken_at(instants, is_true, property_)
-        if number is None:
-            print(f"unknown: {claim.text}: z3 gave flows that do not break it")
+        ran = run_of(self.asked, text)
+        number = counterexamples.broken_at(ran.instants, is_true, property_)
+        if number is None or not meets(self.asked, ran.instants[:number]):
+            print(f"unknown: {claim.text}: the flows found do not break it")
             self.answer(2)
             return
         print(f"false: {claim.text}: broken at instant {number}")
         names = list(dict.fromkeys([*property_.signals(), *self.asked.inputs]))
-        self.tell_flows(text, shown(instants[:number], names))
+        self.tell_flows(text, shown(ran.instants[:number], names, self.asked.home))
         self.answer(1)
 
-    def end(self, what, formula):
-        claim = deciding.Claim(what, formula, "true", True)
-        verdict = self.decide(claim)
+    def end(self, what, formula, fault=None):
+        """Decides whether a run may end with a fault, or with this one."""
+        claim = systems.Claim(what, formula, "true", True)
+        verdict = self.decide(claim, Wanted(order=fault.order, what=fault.what) if fault else Wanted())
         if verdict.word == "proved":
-            self.proved(what)
+            self.proved(claim, verdict)
             return
         if verdict.word == "unknown":
-            self.unknown(claim)
+            self.unknown(claim, verdict)
             return
         text = flows_text(self.asked, verdict.flows)
-        instants, run = run_of(self.asked, text)
-        if run.status != 3:
-            print(f"unknown: {what}: z3 gave flows that do not end so")
+        ran = run_of(self.asked, text)
+        is_meant = ran.fault and (fault is None or ran.fault == (fault.what, *self.asked.built.place(fault.line, fault.column)))
+        if not is_meant or not meets(self.asked, ran.instants):
+            print(f"unknown: {what}: the flows found do not end so")
             self.answer(2)
             return
-        print(f"false: {what}: {run.end}")
-        self.tell_flows(text, shown(instants, self.asked.inputs, left_of(self.asked, verdict.flows, instants)))
+        print(f"false: {what}: {ran.line}")
+        self.tell_flows(text, shown(ran.instants, self.asked.inputs, self.asked.home, counterexamples.left_of(self.asked, verdict.flows, ran.instants)))
+        self.tell_unassumed(verdict.failed)
         self.answer(1)
+
+    def tell_unassumed(self, failed):
+        """Says which assumptions speak of what the failing instant does not compute before its fault."""
+        for it in self.system.assumed:
+            if it.last >= failed:
+                text = self.asked.home.words(it.property.told(it.property.node))
+                print(f"  note: `{text}` is not assumed of the instant that fails: the run ends before it computes all of that")
 
     def tell_flows(self, text, table):
         """Writes the flows of the first counterexample where that was asked for, and shows what they do."""
@@ -341,9 +244,12 @@ def read_words():
     words.add_argument("--all", action="store_true", help="all boolean outputs are true whenever they come")
     words.add_argument("--range", metavar="A=LOW..HIGH", action="append", default=[], help="the values of A; of an input it is assumed, of another signal claimed")
     words.add_argument("--assume", metavar="B", action="append", default=[], help="only runs at whose instants B is true whenever it comes")
+    words.add_argument("--cover", metavar="FOLDER", help="look for flows that reach what those of FOLDER do not, and write them there")
     words.add_argument("--pace", action="store_true", help="let clocks stay independent, as sigc --pace does")
+    words.add_argument("--certify", action="store_true", help="check what z3 proved by a second solver, cvc5 or cvc4; status 2 where it does not confirm it")
     words.add_argument("--seconds", metavar="N", type=traces.at_least(1), default=60, help="for each claim (60)")
     words.add_argument("-o", "--output", metavar="FLOWS", help="write the flows of the first claim that is false to this file")
+    opened.add_include(words)
     return words.parse_args()
 
 
@@ -351,7 +257,9 @@ def main():
     words = read_words()
     if z3_solver.path() is None:
         raise refused(z3_solver.MISSING)
-    with running.Files() as files:
+    if words.cover and os.path.realpath(words.cover) != os.path.dirname(os.path.realpath(words.program)):
+        raise refused(f"--cover {words.cover}: name the folder of {words.program}, whose flows stand there")
+    with running.Files(words.include) as files:
         try:
             asked = Asked(files, words)
         except lexer.Unreadable as error:

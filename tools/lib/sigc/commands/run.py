@@ -14,11 +14,17 @@ line, how it ends. Of a folder each NAME.sig is run with NAME.flows and with eac
 file .want of that name; --update writes these files instead. The status is 1 where something differs.
 
 With --measure nothing of the run is written: it is made several times with several numbers of workers and capacities, in turn
-with runs without workers, and what each takes beside those is told, with the words that are best.
+with runs without workers, and what each takes beside those is told, with the words that are best. Before it begins standard
+error says how long that takes. It keeps to a minute, or to --seconds N: of a long run fewer numbers are tried.
 
 With --watch E, a boolean expression over the signals of the program, those of calls too, the run stops at the first instant
 at which E comes and is false, which is told, with status 1; with --want FILE too, a run that keeps E true is compared.
 tools/sigc-prove asks so of all flows.
+
+With --cover nothing of a run is written either: what was not reached by it, or by all runs of a folder, is told by its place
+in the program: clocks that never ticked, conditions that were never true or never false, and branches of a `default` that
+never gave the value. The status is 1 where less was reached than --least PERCENT says, 100 if it is not given.
+tools/sigc-prove --cover looks for flows that reach the rest.
 
 Ctrl-C ends the run, with status 130; what was written until then stands. The program is the file that the variable SIGC
 names, or else the script ./sigc at the top of the repository.
@@ -28,13 +34,14 @@ import glob
 import os
 import subprocess
 import sys
+import threading
 import time
 
-from sigc.call import measures, running
+from sigc.call import measures, opened, running
 from sigc.clocks import pace_flag, plans
 from sigc.prove import property_language
 from sigc.read import expansion, lexer
-from sigc.trace import flow_values, traces
+from sigc.trace import covered, flow_values, traces
 
 MOST_INSTANTS = 1_000_000
 # Flows of fewer bytes than this are run without workers, and without trying.
@@ -114,12 +121,12 @@ def option_words(words):
 
 def run_one(words):
     """Runs one program, and writes what it writes."""
-    with running.Files() as files:
+    with running.Files(words.include) as files:
         program = running.Program(files, words.program)
         pace = pace_flag.words_of(words.pace)
         classes = plans.Classes(program.asked("tree", *pace))
         flat = expansion.Expansion(program.text)
-        text = running.text_of(words.flows)
+        text = program.home.flows(words.flows, running.text_of(words.flows))
         flows = files.copied(words.flows, text)
         workers = words.workers
         if workers is None:
@@ -127,9 +134,10 @@ def run_one(words):
             workers = workers_of(program.path, flows, words, clusters) if len(text) > LONG else 0
         limit = ["--instants", str(words.instants)] if words.instants else []
         with running.Call("run", program.path, flows, *option_words(words), "--workers", str(workers), *limit) as call:
-            passed_on(call, bar_of(classes, flat, readings(text, flat, pace_flag.names_in(flat, classes)), words))
+            bar = bar_of(classes, flat, readings(text, flat, pace_flag.names_in(flat, classes)), words)
+            passed_on(call, bar) if program.home.is_kernel else led_home(call, program.home)
             line, status = call.ended()
-        print(files.renamed(line), file=sys.stderr)
+        print(program.home.end(files.renamed(line)), file=sys.stderr)
         return status
 
 
@@ -153,8 +161,33 @@ def passed_on(call, bar):
         bar.close()
 
 
-def said_by(program, flows, words):
+def led_home(call, home):
+    """Writes what a run of a kernel writes with the user's names and values."""
+    reader = home.outputs()
+    for line in call.lines():
+        shown = reader(line)
+        if shown is not None:
+            print(shown)
+    sys.stdout.flush()
+
+
+def said_by(path, flows_path, words):
     """The lines that a run writes, and how it ends, last."""
+    with running.Files(words.include) as files:
+        try:
+            home = running.Program(files, path).home
+            if not home.is_kernel:
+                flows = files.copied(flows_path, home.flows(flows_path, running.text_of(flows_path)))
+                *lines, end = said_of(files.written("kernel.sig", home.text), flows, words)
+                return [*filter(lambda it: it is not None, map(home.outputs(), lines)), home.end(files.renamed(end))]
+        except running.Refused as refusal:
+            if running.PLACED.match(refusal.line):
+                return [refusal.line.splitlines()[0]]
+    return said_of(path, flows_path, words)
+
+
+def said_of(program, flows, words):
+    """The same of a kernel."""
     limit = ["--instants", str(words.instants)] if words.instants else []
     with running.Call("run", program, flows, *option_words(words), "--workers", str(words.workers or 0), *limit) as call:
         lines = list(call.lines())
@@ -186,28 +219,44 @@ def compare(words, said):
 
 def measure_one(words):
     """Tells how long the run takes with several numbers of workers and capacities."""
-    with running.Files() as files:
+    with running.Files(words.include) as files:
         program = running.Program(files, words.program)
         pace = pace_flag.words_of(words.pace)
         clusters = len(plans.Code(program.asked("code", *pace)).actors) - 1
-        flows = files.copied(words.flows, running.text_of(words.flows))
+        flows = files.copied(words.flows, program.home.flows(words.flows, running.text_of(words.flows)))
         limit = ["--instants", str(words.instants)] if words.instants else []
-        with running.Call("run", program.path, flows, *pace, *limit, "--workers", "0", stdout=subprocess.DEVNULL) as call:
-            line, status = call.ended()
+        begun = time.monotonic()
+        line, status = first_run(["run", program.path, flows, *pace, *limit, "--workers", "0"], words.seconds)
         if status not in (0, 3):
             raise running.Refused(files.renamed(line), status)
+        once = time.monotonic() - begun
+        plan = measures.planned(once, clusters, words.seconds - once)
+        print(f"sigc-run: {plan.words()}", file=sys.stderr, flush=True)
         try:
-            table, alone = measures.table_of([program.path, flows, *pace, *limit], clusters)
+            table, alone = measures.table_of([program.path, flows, *pace, *limit], plan, begun + words.seconds)
         except measures.Differing as it:
             raise running.Refused(f"{words.program}: another text {it}") from None
         print("\n".join(measures.lines_of(table, alone, clusters)))
         return 0
 
 
-def property_of(words, flat):
+def first_run(words, seconds):
+    """The end of a run and its status; Refused where it takes longer than these seconds."""
+    with running.Call(*words, stdout=subprocess.DEVNULL) as call:
+        watch = threading.Timer(seconds, call.ran.kill)
+        watch.start()
+        ended = call.ended()
+        is_late = not watch.is_alive()
+        watch.cancel()
+    if is_late and ended[1] > 128:
+        raise running.Refused(f"one run takes more than {seconds} s: measure a part of it with --instants N, or give more time with --seconds N")
+    return ended
+
+
+def property_of(words, flat, home):
     """The property that is watched."""
     try:
-        made = property_language.property_of(words.watch, {it.name: it.kind for it in flat.signals})
+        made = property_language.property_of(home.kernel_words(words.watch), {it.name: it.kind for it in flat.signals})
     except property_language.Wrong as error:
         raise running.Refused(str(error), 2) from None
     if made.kind == "integer":
@@ -228,12 +277,13 @@ def breaks(watched, instant):
 
 def watch_one(words):
     """Runs one program up to the first instant that breaks a property, and writes what it writes up to there, or compares it."""
-    with running.Files() as files:
+    with running.Files(words.include) as files:
         run = traces.Run(files, words.program, words.flows, traces.run_words(words))
-        watched = property_language.Watched(property_of(words, run.flat))
+        watched, home = property_language.Watched(property_of(words, run.flat, run.home)), run.home.outputs()
         outputs, said = [it.name for it in run.flat.signals if it.role == "output" and not it.copy], []
         for number, instant in enumerate(run, 1):
-            lines = [f"{it} {instant[it]}\n" for it in outputs if it in instant]
+            shown = [home(f"{it} {instant[it]}") for it in outputs if it in instant]
+            lines = [f"{it}\n" for it in shown if it is not None]
             if words.want:
                 said += (it.rstrip("\n") for it in lines)
             else:
@@ -244,6 +294,31 @@ def watch_one(words):
                 print(f"watch: `{words.watch}` {why} at instant {number}", file=sys.stderr)
                 return 1
         return compare(words, [*said, run.end]) if words.want else traces.told(run)
+
+
+def cover(words):
+    """Tells what a run, or the runs of a folder, did not reach."""
+    is_folder = os.path.isdir(words.program)
+    runs = {}
+    for program, flows in pairs_of(words.program.rstrip("/")) if is_folder else [(words.program, words.flows)]:
+        runs.setdefault(program, []).append(flows)
+    if not runs:
+        raise running.Refused(f"{words.program}: no program with flows stands there")
+    reached = goals = 0
+    for program, files in runs.items():
+        one, other = cover_program(program, files, words)
+        reached, goals = reached + one, goals + other
+    return 1 if 100 * reached < words.least * goals else 0
+
+
+def cover_program(program, flows, words):
+    """Tells what runs of one program did not reach: how many goals were reached, of how many."""
+    with running.Files() as files:
+        found = covered.Covered(files, program, words.pace)
+        for it in flows:
+            found.follow(it, words.instants)
+        print("\n".join(found.lines()), flush=True)
+        return found.share()
 
 
 def pairs_of(folder):
@@ -292,17 +367,23 @@ def main():
     words.add_argument("--pace", action="store_true", help=traces.PACE_HELP)
     words.add_argument("--progress", action="store_true", help="show how far it is, also where standard error is no terminal")
     words.add_argument("--watch", metavar="E", help="stop at the first instant at which E is false")
+    words.add_argument("--cover", action="store_true", help="tell what the run, or the runs of a folder, did not reach")
+    words.add_argument("--least", metavar="PERCENT", type=traces.at_least(0), default=100, help="with --cover the share that has to be reached (100)")
     words.add_argument("--measure", action="store_true", help="tell how long the run takes with workers and without")
+    words.add_argument("--seconds", type=traces.at_least(1), default=60, metavar="N", help="how long --measure may take (default: 60)")
     words.add_argument("--want", metavar="FILE", help="compare the run with this file")
     words.add_argument("--update", action="store_true", help="write the files .want of a folder")
+    opened.add_include(words)
     words = words.parse_args()
     is_watched = words.watch is not None
     if os.path.isdir(words.program) and not words.flows:
         if is_watched:
             raise running.Refused("--watch wants one program and its flows: sigc-run PROGRAM FLOWS --watch E", 2)
-        return run_folder(words)
+        return cover(words) if words.cover else run_folder(words)
     if not words.flows:
         raise running.Refused("a program wants its flows: sigc-run PROGRAM FLOWS, or sigc-run FOLDER", 2)
+    if words.cover:
+        return cover(words)
     if words.measure:
         return measure_one(words)
     return watch_one(words) if is_watched else compare_one(words) if words.want else run_one(words)

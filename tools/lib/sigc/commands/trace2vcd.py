@@ -19,7 +19,7 @@ import argparse
 import os
 from typing import NamedTuple
 
-from sigc.call import running
+from sigc.call import opened, running
 from sigc.read import expansion, lexer
 from sigc.trace import traces
 
@@ -171,9 +171,9 @@ def put(path, lines):
         it.writelines(f"{line}\n" for line in lines)
 
 
-def draw(words, names, kinds, flat, instants):
-    """Writes the waveform, and the save file beside it."""
-    states = flat.states() if flat and words.states == "name" else {}
+def draw(words, names, kinds, flat, instants, values=()):
+    """Writes the waveform, and the save file beside it. values has the names of the values of enumerations, by signals."""
+    states = {**flat.states(), **dict(values)} if flat and words.states == "name" else {}
     scope, variables = scoped(names, kinds, flat, flat.name if flat else "trace", states)
     put(words.output, vcd(scope, variables, instants, words.events == "pulse"))
     if words.output:
@@ -182,10 +182,10 @@ def draw(words, names, kinds, flat, instants):
 
 def draw_run(words):
     """The waveform of a run."""
-    with running.Files() as files:
+    with running.Files(words.include) as files:
         run = traces.Run(files, words.file, words.flows, traces.run_words(words))
         kinds = {it.name: it.kind for it in run.flat.signals}
-        draw(words, list(kinds), kinds, run.flat, traces.window(run, words))
+        draw(words, list(kinds), kinds, run.flat, traces.window(run, words), run.home.states())
         return traces.told(run)
 
 
@@ -207,6 +207,7 @@ def main():
     words.add_argument("--states", choices=("name", "number"), default="name", help="how states of automata are drawn (default: name)")
     words.add_argument("-o", "--output", metavar="FILE", help="the file to write, with a save file for GTKWave beside it (default: standard output)")
     traces.add_window_words(words)
+    opened.add_include(words)
     words = words.parse_args()
     return draw_run(words) if words.flows else draw_trace(words)
 

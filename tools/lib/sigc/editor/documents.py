@@ -1,11 +1,12 @@
 """A program in an editor: what the language server says of it.
 
-Editors count lines from 0 and characters in units of UTF-16; sigc counts lines from 1 and columns in bytes. A document
-keeps its text a byte a character, as sigc sees it, and turns places over where they go in and out.
+A document keeps its text a byte a character, as sigc sees it, and turns places over where they go in and out.
 """
-from sigc.editor import soon
+from sigc.editor import places, soon
+from sigc.editor.places import shown
+from sigc.editor.wider import Wider
 from sigc.hints import all_advice, warnings
-from sigc.read import editing, layout, line_starts, syntax
+from sigc.read import editing, layout, syntax
 from sigc.read.lexer import RESERVED
 
 ERROR, WARNING, INFORMATION = 1, 2, 3
@@ -21,27 +22,27 @@ KEYWORD_ITEM, VARIABLE_ITEM, FUNCTION_ITEM, SNIPPET_ITEM, CONSTANT_ITEM = 14, 6,
 class Document:
     def __init__(self, uri, text, sigc):
         self.uri, self.sigc = uri, sigc
-        self.change(text)
+        self.take(places.bytes_in(text))
 
-    def change(self, text):
-        self.text = text.encode("utf-8", "surrogatepass").decode("latin-1")
+    def change(self, changes):
+        """Takes the changes of an editor: all of them, or none where one of them is wrong."""
+        self.take(places.changed(self.text, changes))
+
+    def take(self, text):
+        self.text = text
         self.reader = syntax.read(self.text)
-        self.clocks, self.advice = None, all_advice.Advice(self.sigc, self.reader)
+        self.clocks, self.advice, self.wider = None, all_advice.Advice(self.sigc, self.reader), Wider(self.uri, self.text, self.sigc)
 
     # Places.
 
     def position(self, offset):
-        line, begun = line_starts.line_at(self.text, offset)
-        return {"line": line, "character": units(self.text[begun:offset])}
+        return places.position_of(self.text, offset)
 
     def range(self, start, end):
         return {"start": self.position(start), "end": self.position(end)}
 
     def offset(self, position):
-        lines = self.text.split("\n")
-        line = min(position["line"], len(lines) - 1)
-        begun = sum(len(it) + 1 for it in lines[:line])
-        return begun + bytes_of(lines[line], position["character"])
+        return places.offset_of(self.text, position)
 
     def piece_at(self, offset):
         return next((it for it in self.reader.pieces if it.start <= offset <= it.end and it.kind == "name"), None)
@@ -55,10 +56,15 @@ class Document:
     # What sigc says.
 
     def refusals(self):
+        if not self.wider.is_kernel:
+            return []
         first = self.sigc.check(self.text)
         return self.advice.refusals(first) if first else []
 
     def diagnostics(self):
+        if not self.wider.is_kernel:
+            told = self.wider.told(self.sigc, lambda kernel: all_advice.Advice(self.sigc, syntax.read(kernel)))
+            return [self.marked(*place, INFORMATION if at else ERROR, words) for at, (place, words) in enumerate(told)]
         refusals = self.refusals()
         found = [self.diagnostic(it) for it in refusals]
         found += [self.marked(it.line, it.col, INFORMATION, f"of `{refusal.text}`: {it.words}") for refusal in refusals for it in self.advice.notes(refusal)]
@@ -79,7 +85,7 @@ class Document:
             places = [(refusal.line or 1, refusal.col or 1), *((it.line, it.col) for it in self.advice.notes(refusal))]
             if any(meet(wanted, self.range_of(*it)) for it in places):
                 for it in self.advice.mends(refusal, MOST_MENDS):
-                    found.setdefault(it.text, self.action(it.words, editing.differences(self.text, it.text), refusal))
+                    found.setdefault(it.text, self.action("; ".join((it.words, *it.notes)), editing.differences(self.text, it.text), refusal))
         return list(found.values())
 
     def action(self, title, edits, refusal):
@@ -197,7 +203,7 @@ class Document:
     def classes(self):
         """The classes of the signals; none where sigc refuses the program."""
         if self.clocks is None:
-            self.clocks = classes_of(self.sigc.ask("tree", self.text).out)
+            self.clocks = classes_of(self.sigc.ask("tree", self.wider.kernel(self.text)).out)
         return self.clocks
 
     def images_of(self, process, name):
@@ -216,9 +222,9 @@ class Document:
         of = f" of {name}" if "#" in name else ""
         when = "every instant of the program"
         if above is not None:
-            words = soon.of(self.sigc, self.text).words(name)
-            when = (f"{words}, " if words else "") + "some of the instants of " + (" ".join(above) if above != ["-"] else "a clock of the compiler")
-        return f"clock{of}: {when}" + (f", with {' '.join(others[:8])}" if others else "")
+            words = soon.of(self.sigc, self.wider.kernel(self.text)).words(name)
+            when = (f"{words}, " if words else "") + "some of the instants of " + (" ".join(map(self.wider.name, above)) if above != ["-"] else "a clock of the compiler")
+        return f"clock{of}: {when}" + (f", with {' '.join(map(self.wider.name, others[:8]))}" if others else "")
 
     def cluster_line(self, process, name):
         for _, names, label in process.pragmas:
@@ -253,22 +259,6 @@ class Document:
 def meet(wanted, where):
     """Whether two ranges have a line in common."""
     return wanted["start"]["line"] <= where["end"]["line"] and where["start"]["line"] <= wanted["end"]["line"]
-
-
-def shown(text):
-    """A text of bytes as an editor has it."""
-    return text.encode("latin-1").decode("utf-8", "replace")
-
-
-def units(text):
-    """How many units of UTF-16 bytes are."""
-    return len(shown(text).encode("utf-16-le", "surrogatepass")) // 2
-
-
-def bytes_of(line, count):
-    """How many bytes of a line its first units of UTF-16 are."""
-    text = shown(line).encode("utf-16-le", "surrogatepass")[: 2 * count].decode("utf-16-le", "replace")
-    return min(len(text.encode("utf-8")), len(line))
 
 
 def classes_of(tree):

@@ -26,7 +26,7 @@ def hints_at(document, process, name):
 
 def clock_of(document, process, name):
     """When a signal comes; of a called process only where each of its calls says the same."""
-    when = soon.of(document.sigc, document.text)
+    when = soon.of(document.sigc, document.wider.kernel(document.text))
     found = {when.words(it) for it in document.images_of(process, name)}
     return found.pop() if len(found) == 1 else ""
 

@@ -3,7 +3,8 @@ import os
 import stat
 import urllib.parse
 
-from sigc.editor.documents import shown, Document
+from sigc.editor.documents import Document
+from sigc.editor.places import shown
 from sigc.read import files_read
 
 # How many symbols an editor is given, how many files are read for them, of how many bytes in all, and how many names are

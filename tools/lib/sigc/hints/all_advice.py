@@ -4,6 +4,7 @@ from typing import NamedTuple
 from sigc.call.compiler import limit_of
 from sigc.hints.further import refusals_of
 from sigc.hints.tried import mends_for, shown_hint
+from sigc.why import folding, large_guards
 from sigc.why.causes import cause_of, told_of, told_words, Late
 
 # How far the guilty lines and the mends of one refusal are looked for: calls of sigc, and seconds.
@@ -41,7 +42,13 @@ class Advice:
         """Where the mistake stands besides sigc's place: of clocks the least equations that keep the refusal."""
         return self.once(("notes", refusal), lambda: [*(Note(*it) for it in self.hint(refusal).places), *self.guilty(refusal)])
 
+    def large(self):
+        """The truths that are too large, where sigc ends at its bound on diagram nodes."""
+        return self.once("large", lambda: large_guards.large_in(self.sigc, self.reader) if self.reader.processes and not self.reader.faults else [])
+
     def guilty(self, refusal):
+        if large_guards.is_told(refusal.text):
+            return [Note(it.site.line, it.site.col, large_guards.told_of_large(it, self.reader.text)) for it in self.large()]
         told = told_of(refusal.text)
         if told is None or self.reader.faults or not self.reader.processes:
             return []
@@ -58,4 +65,6 @@ class Advice:
         return [Note(it.name.line, it.name.col, f"{it.name.text} is declared here")] if it else []
 
     def mends(self, refusal, most):
+        if large_guards.is_told(refusal.text):
+            return self.once(("mends", refusal), lambda: folding.folds_of(self.sigc, self.reader, self.large()))
         return self.once(("mends", refusal, most), lambda: mends_for(self.sigc, self.reader, refusal, self.hint(refusal), most, limit_of(self.sigc, *MEND)))

@@ -1,4 +1,5 @@
 """What most likely is wrong where sigc refuses clocks: the beginners' mistakes of docs/errors.md, as far as the text shows them."""
+from sigc.hints.forced_hints import forced_lines
 from sigc.hints.near_words import Hint
 from sigc.hints.warnings import is_used
 from sigc.read.editing import with_equation, Edit
@@ -152,6 +153,15 @@ def of_a_clock(reader, names):
 
 
 def of_a_condition(reader, names):
+    """What is wrong with a condition that is forced: the likeliest fault, and before it what the refusal says."""
+    lines = forced_lines(reader, names[0])
+    if len(lines) > 1:
+        return lines, "condition-x-is-forced", []
+    found = of_a_fault(reader, names)
+    return ([*lines, *found[0]], *found[1:]) if found else (lines, "", [])
+
+
+def of_a_fault(reader, names):
     for process in reader.processes:
         for found in written_twice(reader.text, process):
             return [f"{source_of(reader.text, found[0][0])} is written {len(found)} times, as so many conditions: name it once"], "the-same-comparison-twice", []

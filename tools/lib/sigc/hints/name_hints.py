@@ -4,6 +4,8 @@ from sigc.hints.clashes import of_operands, of_sides
 from sigc.hints.init_hints import init_hints
 from sigc.hints.near_words import near, Hint
 from sigc.hints.other_marks import comment_hint
+from sigc.hints.missing_operators import operator_hints
+from sigc.hints.signal_words import word_hint
 from sigc.read.editing import groups_of, with_inputs, with_locals, without_declaration, Edit
 from sigc.read.inferred_kinds import inferred, undeclared
 from sigc.read.signal_kinds import kinds_of
@@ -30,9 +32,9 @@ def unknown_hints(reader, line, col, name):
         return []
     if name in ("pre", "fby", "last"):
         return [Hint(["the previous value of X is `X $ init C`, and C the first one"], "0---pre-n--1")]
-    comment = comment_before(reader, piece)
-    if comment:
-        return [comment]
+    found = comment_before(reader, piece) or word_hint(name)
+    if found:
+        return [found]
     if equation and equation.called and equation.called.start == piece.start:
         return unknown_process(reader, process, piece)
     is_left = any(it.text == name for other in process.equations for it in other.lefts)
@@ -54,7 +56,8 @@ def unknown_process(reader, process, piece):
     if meant:
         return [Hint([f"did you mean `{meant}`?"], "", [Edit(piece.start, piece.end, meant)])]
     if process.declaration(piece.text):
-        return [Hint([f"{piece.text} is a signal, and only a process is called: a product is `{piece.text} * (..)`"])]
+        said = f"{piece.text} is a signal, and only a process is called: a product is `{piece.text} * (..)`"
+        return [*operator_hints(reader.pieces, reader.pieces.index(piece) + 1, kinds_of(process)), Hint([said])]
     return [Hint([f"no process has the name {piece.text}: write it behind `where`, as `process {piece.text} = (? .. ! ..) ..;`"])]
 
 

@@ -2,12 +2,14 @@
 import re
 
 from sigc.hints.near_words import Hint
+from sigc.hints.signal_words import of_mark, TAKES
 from sigc.read.editing import Edit
 
 OTHER_WORDS = "marks-and-words-of-other-languages"
 KIND_WORDS = {"integer": "integer", "int": "integer", "boolean": "boolean", "bool": "boolean", "event": "event"}
 KIND_BEHIND = re.compile(r"([A-Za-z]\w*(?:\s*,\s*[A-Za-z]\w*)*)\s*:\s*(" + "|".join(KIND_WORDS) + r")\b")
 COMMENT = "a comment is written `% .. %`"
+ARRAYS = "there are no arrays: each element is a signal, or what is done for each is a process that is called"
 STRANGE = {
     "~": "`not` is written in letters",
     "#": COMMENT,
@@ -16,8 +18,8 @@ STRANGE = {
     "'": 'a label is written in `"`',
     "\\": "not equal is `/=`",
     "@": "no token has this mark",
-    "[": "there are no arrays: each element is a signal, or what is done for each is a process that is called",
-    "]": "there are no arrays: each element is a signal, or what is done for each is a process that is called",
+    "[": ARRAYS,
+    "]": ARRAYS,
 }
 
 
@@ -71,11 +73,14 @@ def strange_byte(text, start):
         return [Hint([words])]
     if rest[0] == "~":
         return [Hint([STRANGE["~"]], OTHER_WORDS, [Edit(start, start + 1, "not ")])]
+    if rest[0] == "#" and of_mark(text, start):
+        return [of_mark(text, start)]
     if rest[0] == "#" and (start == 0 or text[start - 1] in " \t\n"):
         edit = Edit(start, line_end(text, start), f"% {text[start + 1 : line_end(text, start)].replace('%', '').strip()} %")
         return [Hint([COMMENT], OTHER_WORDS, [edit])]
     if rest[0] in "[]" and text[line_begun:start].count('"') % 2 == 0 or rest[0] in STRANGE:
-        return [Hint([STRANGE[rest[0]]])]
+        more = [TAKES.format("arrays")] if rest[0] in "[]" else []
+        return [Hint([STRANGE[rest[0]], *more])]
     return [Hint(["only ASCII stands outside comments"])] if rest[0] > "~" else []
 
 

@@ -7,6 +7,8 @@ from sigc.hints.interfaces import INTERFACES
 from sigc.hints.near_words import near, Hint
 from sigc.hints.other_marks import OTHER_WORDS, closed_comments, comment_hint, strange_byte
 from sigc.hints.other_words import WORDS
+from sigc.hints.missing_operators import missing_operator
+from sigc.hints.signal_words import TAKES, shift, signal_word
 from sigc.hints.rewritten import behind_call, call_inside, if_then_else
 from sigc.read.editing import Edit
 from sigc.read.lexer import KINDS, RESERVED
@@ -43,7 +45,8 @@ def other_kind(it):
         return None
     word, following = it.found.text, it.piece(1)
     if word in ("constant", "const"):
-        return Hint(["there are no named constants: write the number, or a parameter of a called process"], "constant-integer-k--5")
+        lines = ["there are no named constants: write the number, or a parameter of a called process", TAKES.format("named constants")]
+        return Hint(lines, "constant-integer-k--5")
     if it.before.text == ";" and following.text in (";", ",", "!", ")"):
         return Hint(["names of one kind are separated by `,`"], "boolean-low-high", [Edit(it.before.start, it.before.end, ",")])
     meant = MEANT.get(word.lower()) if MEANT.get(word.lower()) in KINDS else near(word, KINDS)
@@ -231,8 +234,8 @@ def open_end(it):
 
 
 MISTAKES = [
-    other_language, *INTERFACES, *WORDS, other_kind, comma_of_kinds, program_in_comment, no_equals, no_end, no_semicolon, no_semicolon_of_group, lustre_delay, if_then_else, esterel_word,
-    comment_mark, other_mark, semicolon_of_equations, bar_twice, equals_for_definition, call_inside, behind_call, no_bar, init_of_input, delay_of_two, other_word,
+    other_language, signal_word, shift, *INTERFACES, *WORDS, other_kind, comma_of_kinds, program_in_comment, no_equals, no_end, no_semicolon, no_semicolon_of_group, lustre_delay, if_then_else, esterel_word,
+    comment_mark, other_mark, semicolon_of_equations, bar_twice, equals_for_definition, missing_operator, call_inside, behind_call, no_bar, init_of_input, delay_of_two, other_word,
     chained_relation, late_pragmas, misspelt, reserved_name, open_bracket, open_end,
 ]
 

@@ -10,7 +10,10 @@ from sigc.hints.near_words import Hint
 from sigc.read.editing import applied, offset_of, original
 from sigc.read.syntax import read
 from sigc.why.causes import told_of
+from sigc.why.choices import choices
 from sigc.why.mending import mends_of, Mend
+from sigc.why.unreached import unreached_parts
+from sigc.why.weighed import MOST_NOTES
 
 DEEPEST = 8
 # What an edit may bring along from elsewhere, and what has a mend.
@@ -61,20 +64,27 @@ def mends_for(sigc, reader, refusal, hint, most, limit):
     if not hint.edits:
         return []
     found = completed(sigc, applied(reader.text, hint.edits), (hint.lines[-1],), DEEPEST, limit)
-    return [found] if found else []
+    return [found._replace(notes=notes_beside(reader, found))] if found else []
+
+
+def notes_beside(reader, mend):
+    """What a mend of the text chooses, changes and leaves without effect."""
+    known = {words for process in reader.processes for _, words in unreached_parts(reader.text, process)} if not reader.faults else set()
+    dead = [words for process in read(mend.text).processes for _, words in unreached_parts(mend.text, process) if words not in known]
+    return tuple(dict.fromkeys((*choices(reader.text, mend.text), *mend.notes, *(f"with this, {it}" for it in dead[:MOST_NOTES]))))
 
 
 def completed(sigc, text, words, depth, limit):
-    """The mend of a text that is mended in part: further edits, and of its clocks one step, until sigc accepts it; None
-    where none lead there."""
+    """The mend of a text that is mended in part: further edits, and a mend of its clocks, until sigc accepts it; None where
+    none lead there."""
     refusal = sigc.check(text)
     if refusal is None:
         return Mend(joined(words), text)
     if not depth or limit.is_over(sigc):
         return None
     if told_of(refusal.text):
-        one_step = next((it for it in mends_of(sigc, text, 2, limit) if "; " not in it.words), None)
-        return Mend(joined((*words, one_step.words)), one_step.text) if one_step else None
+        first = next(iter(mends_of(sigc, text, 1, limit)), None)
+        return first._replace(words=joined((*words, f"then sigc says `{refusal.text}`, and {first.words}"))) if first else None
     for hint in hints_of(text, read(text), refusal):
         if hint.edits and outcome(sigc, text, refusal, hint.edits) != REFUSED:
             found = completed(sigc, applied(text, hint.edits), (*words, hint.lines[-1]), depth - 1, limit)

@@ -3,7 +3,9 @@ from typing import NamedTuple
 
 from sigc.read.signal_kinds import is_integer_comparison, kinds_of
 from sigc.read.syntax import source_of, walk, words_in
-from sigc.why.mending import narrowed_operands, written_twice
+from sigc.why.deciding_comparisons import deciding_comparisons
+from sigc.why.loops import definitions
+from sigc.why.mending import clocked_by_when, narrowed_operands, written_twice
 from sigc.why.ties import unasked
 from sigc.why.unreached import unreached_parts
 
@@ -65,19 +67,59 @@ def unused_processes(text, processes):
 
 
 def twice(text, processes):
+    """Comparisons that are written twice, where clocks differ by them: of values alone each says the same."""
     for process in processes:
+        deciding = deciding_comparisons(process) if written_twice(text, process) else ()
         for found in written_twice(text, process):
-            (first, _), *others = found
-            for node, _ in others:
+            first, *others = [node for node, _ in found if node.at in deciding] or [None]
+            for node in others:
                 where = f"{source_of(text, node)} stands at {first.at.line}:{first.at.col} too"
                 yield at(node.at, f"{where}: two conditions to sigc, which may differ; name it once")
 
 
+def equal_delays(process, text):
+    """The delays of a process that keep the same: lists of nodes with the same operand and the same first value."""
+    found = {}
+    for equation in process.equations:
+        for whole in equation.expressions():
+            for node in (it for it in walk(whole) if it.op == "$"):
+                declared = process.declaration(equation.lefts[0].text) if node is equation.right else None
+                init = node.init or (declared.init if declared else [])
+                found.setdefault((source_of(text, node.parts[0]), "".join(it.text for it in init)), []).append(node)
+    return [it for it in found.values() if len(it) > 1]
+
+
+def delayed_twice(text, processes):
+    for process in processes:
+        for first, *others in equal_delays(process, text):
+            for node in others:
+                where = f"the delay of {source_of(text, node.parts[0])} at {first.at.line}:{first.at.col} keeps the same"
+                yield at(node.at, f"{where}: two memories with one value; name it once, and use the name")
+
+
 def narrowing(text, processes):
     for process in processes:
+        clocked = clocked_by_when(process)
         for node, rare, other in narrowed_operands(process):
+            if is_tied(text, rare, other, clocked, process):
+                continue
             one, two = source_of(text, rare), source_of(text, other)
             yield at(node.at, f"{two} has to come as rarely as {one} here: the operands of `{node.op}` are present together")
+
+
+def is_tied(text, rare, other, clocked, process):
+    """Whether an equation says that an operand comes as rarely as the one beside it: `B ^= when C` beside `A when C`, or
+    `A when ^B` itself."""
+    rare = definitions(process).get(rare.at.text, rare) if rare.op == "name" else rare
+    condition = rare.parts[-1]
+    if other.op != "name":
+        return False
+    if condition.op in ("^", "name"):
+        inner = condition.parts[0] if condition.op == "^" else condition
+        if inner.op == "name" and inner.at.text == other.at.text:
+            return True
+    asked = clocked.get(other.at.text)
+    return asked is not None and source_of(text, asked) == source_of(text, condition)
 
 
 def compared(process):
@@ -113,7 +155,7 @@ def unreached(text, processes):
             yield from (at(piece, words) for piece, words in unreached_parts(text, process))
 
 
-RULES = (unused_locals, unasked_inputs, unused_processes, twice, narrowing, steered)
+RULES = (unused_locals, unasked_inputs, unused_processes, twice, delayed_twice, narrowing, steered)
 
 
 def warnings_of(reader, is_accepted=True):

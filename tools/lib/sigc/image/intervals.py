@@ -11,6 +11,8 @@ ALL = (LEAST, MOST)
 DEEPEST = 6
 ROUNDS = 3
 TYPES = {"int8_t": (-128, 127), "uint8_t": (0, 255), "int16_t": (-(1 << 15), (1 << 15) - 1), "int32_t": (-(1 << 31), (1 << 31) - 1), "int64_t": ALL}
+# The least value of each type in which sums and the like are computed; an int has 16 bits at least.
+LEAST_OF = {"int": -(1 << 15), "int32_t": -(1 << 31), "int64_t": LEAST}
 OPPOSITE = {"Lt": "Ge", "Ge": "Lt", "Le": "Gt", "Gt": "Le", "Eq": "Ne", "Ne": "Eq"}
 
 
@@ -29,8 +31,10 @@ def met(first, second):
 
 
 def type_of(values):
-    """The smallest type of C for a range."""
-    return next(name for name, it in TYPES.items() if values is None or it[0] <= values[0] and values[1] <= it[1])
+    """The smallest type of C for a range; for none, which what always ends the run has, that in which C computes it."""
+    if values is None:
+        return "int64_t"
+    return next(name for name, it in TYPES.items() if it[0] <= values[0] and values[1] <= it[1])
 
 
 def quotients(first, second):
@@ -220,10 +224,21 @@ class Ranges:
         operands = [(operand.value, operand.value) if operand.signal is None else self.value(operand.signal, guard, facts, depth) for operand in it.fields[2]]
         return met(result(it.fields[1], operands), ALL)
 
+    def where_done(self, it):
+        """The ranges of the operands of a function where it is done."""
+        facts = self.facts(it.guard)
+        return [(operand.value, operand.value) if operand.signal is None else self.value(operand.signal, it.guard, facts, DEEPEST) for operand in it.fields[2]]
+
+    def may_leave(self, it, kind):
+        """Whether the quotient that a remainder belongs to may be outside of the type in which C computes it."""
+        dividend, divisor = self.where_done(it)
+        if dividend is None or divisor is None:
+            return False
+        return dividend[0] <= LEAST_OF[kind] and divisor[0] <= -1 <= divisor[1]
+
     def is_safe(self, it):
         """Whether a function always has a value within 64 bits."""
-        facts = self.facts(it.guard)
-        operands = [(operand.value, operand.value) if operand.signal is None else self.value(operand.signal, it.guard, facts, DEEPEST) for operand in it.fields[2]]
+        operands = self.where_done(it)
         if None in operands:
             return False
         if it.fields[1] in ("Div", "Mod") and operands[1][0] <= 0 <= operands[1][1]:

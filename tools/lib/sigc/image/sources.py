@@ -17,9 +17,9 @@ def copy_of(name):
 class Source:
     """A program's text, by the places of its operators."""
 
-    def __init__(self, text, image, places=lambda line, column: (line, column)):
+    def __init__(self, text, image, places=lambda line, column: (line, column), home=None):
         self.text, self.image, self.places = COMMENT.sub(lambda it: re.sub(r"[^\n]", " ", it[0]), text), image, places
-        self.nodes = {}
+        self.home, self.nodes = home, {}
         for process in syntax.read(self.text).processes:
             for equation in process.equations:
                 for whole in equation.expressions():
@@ -35,8 +35,10 @@ class Source:
         name = self.image.signals[it.target].name if it.target is not None else ""
         copy = copy_of(name)
         line, column = self.place(it)
-        said = self.said(it, name)
-        return f"{line}:{column} {syntax.truncated(said, LONGEST)}{f' ({copy[:-1]})' if copy and said and copy not in said else ''}"
+        said, place = self.said(it, name), f"{line}:{column}"
+        if self.home and not self.home.is_kernel:
+            said, place = self.home.words(said), self.home.place(line, column)
+        return f"{place} {syntax.truncated(said, LONGEST)}{f' ({copy[:-1]})' if copy and said and copy not in said else ''}"
 
     def said(self, it, name):
         equation, node = self.nodes.get((it.line, it.column), (None, None))

@@ -109,12 +109,24 @@ def check(it, node):
         raise Wrong(f"`{it.told(node)}`: what stands behind `{node.op}` is a truth")
     if node.op in ("=", "/=", "default") and is_truth[0] != is_truth[1]:
         raise Wrong(f"`{it.told(node)}`: an integer stands beside a truth")
-    if node.op in ("$", "cell") and not node.init:
-        raise Wrong(f"`{it.told(node)}`: what it begins with is wanted here, as `{node.op} .. init 0`")
+    if node.op in ("$", "cell"):
+        check_init(it, node, is_truth[0])
     if node.op in ("$", "cell", "default") and any(is_constant(part) for part in node.parts[:2 if node.op == "default" else 1]):
         raise Wrong(f"`{it.told(node)}`: a constant alone has no clock")
+    is_function = node.op not in ("when", "default", "$", "cell", *CLOCKS)
+    if is_function and node.parts and all(map(is_constant, node.parts)) and not is_constant(node):
+        raise Wrong(f"`{it.told(node)}`: constants alone have no clock; write the value that this has")
     if node.op == "number" and int(node.at.text) > MOST:
         raise Wrong(f"{node.at.text} has more than 64 bits")
+
+
+def check_init(it, node, is_truth):
+    """Wrong where what a delay or a cell begins with is missing, or no constant of its kind."""
+    if not node.init:
+        raise Wrong(f"`{it.told(node)}`: what it begins with is wanted here, as `{node.op} .. init {'false' if is_truth else '0'}`")
+    text = "".join(piece.text for piece in node.init)
+    if is_truth != (text in ("true", "false")) or not is_truth and (not text.lstrip("-").isdigit() or not LEAST <= int(text) <= MOST):
+        raise Wrong(f"`{it.told(node)}`: what it begins with is {'true or false' if is_truth else 'a number of 64 bits'}, and not {text}")
 
 
 def is_constant(node):
@@ -165,19 +177,22 @@ class Watched:
     """A property along the instants of a trace: what its delays and cells hold is kept from one to the next."""
 
     def __init__(self, it):
-        self.property = it
+        self.property, self.tied = it, None
         self.held = {id(node): constant_in(node.init) for node in syntax.walk(it.node) if node.op in ("$", "cell")}
 
     def at(self, instant):
         """What the property is at an instant, a map from the names of what is present to values: ABSENT or a value.
 
-        NoValue where its arithmetic leaves 64 bits, Tied where operands do not come together. Each instant is asked for once.
+        NoValue where its arithmetic leaves 64 bits, else Tied where operands do not come together. Each instant is asked for once.
         """
-        following = {}
+        following, self.tied = {}, None
         try:
-            return self.value(self.property.node, instant, following)
+            value = self.value(self.property.node, instant, following)
         finally:
             self.held.update(following)
+        if self.tied is not None:
+            raise Tied(self.tied)
+        return value
 
     def value(self, node, instant, following):
         if node.op == "name":
@@ -201,12 +216,14 @@ class Watched:
                 following[id(node)] = parts[0]
                 return parts[0]
             return self.held[id(node)] if parts[1] == 1 else ABSENT
+        return self.function(node, parts)
+
+    def function(self, node, parts):
+        """What a function gives; nothing where its operands do not come together, which is kept in mind."""
         there = [it is not ABSENT for it, part in zip(parts, node.parts) if not is_constant(part)]
-        if any(there) and not all(there):
-            raise Tied(node)
-        if there and not there[0]:
-            return ABSENT
-        return FUNCTIONS[node.op](*parts)
+        if any(there) and not all(there) and self.tied is None:
+            self.tied = node
+        return FUNCTIONS[node.op](*parts) if all(there) else ABSENT
 
 
 def clock_of(op, parts):

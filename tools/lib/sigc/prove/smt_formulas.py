@@ -1,7 +1,13 @@
-"""An instant of an image as formulas of SMT-LIB: what is read, what each operation does, and what the memories hold behind it.
+"""An instant of an image as formulas of SMT-LIB: what is read, what each operation does, and what the memories hold after it.
 
-The formulas follow the image operation by operation. Integers are those of z3, and each operation that may leave 64 bits or
-divide by zero tells when it does. A property is translated beside them, with memories of its own for its delays and cells.
+The formulas follow the image operation by operation. Integers are those of z3, without bounds, and each operation that may leave
+64 bits or divide by zero says when it does. Properties are translated with memories of their own for their delays and cells.
+
+Which values are real: a run does the operations in this order, and ends at the first that has no value. So in an instant
+without a fault every value here is the run's. In an instant that fails only what stands before the first fault is: the result
+there and all that follows are numbers of these formulas and of no run. Nothing may be assumed of them, or an assumption as
+`N < 1000` would exclude the very overflow of N that ends the run. `Step.failing` says of each operation when it is the
+first to fail, with those assumptions alone whose signals all stand before it. All other formulas speak of instants without a fault.
 """
 from typing import NamedTuple
 
@@ -105,45 +111,58 @@ class Step:
         self.image = image
         self.memories = [Memory(f"m{i}", SORTS[it.kind], constant(it.kind, it.init), it.init) for i, it in enumerate(image.memories)]
         self.following = {it.name: it.name for it in self.memories}
-        self.definitions, self.reads, self.faults = [], [], []
-        self.seen, self.nodes = {}, {0: "false", 1: "true"}
+        self.definitions, self.named, self.reads, self.faults = [], {}, [], []
+        self.seen, self.nodes, self.guards = {}, {0: "false", 1: "true"}, []
         self.numbers = {it.name: at for at, it in enumerate(image.signals)}
+        self.last = {it.fields[0]: order for order, it in enumerate(image.operations) if it.kind != "Store"}
         for order, operation in enumerate(image.operations):
             self.order = order
             self.do(operation)
         self.fault = self.defined("fault", "Bool", either(*(it.when for it in self.faults)))
         self.watched = [Translated(self, it) for it in properties]
 
+    def failing(self, fault, assumed):
+        """When a fault is the first of its instant, where what is assumed holds as far as it is computed before it."""
+        before = either(*(it.when for it in self.faults[: self.faults.index(fault)]))
+        return both(fault.when, negated(before), *(it.holds for it in assumed if it.last < fault.order))
+
     def defined(self, name, sort, term):
-        """A name for a formula, or the formula itself where it is short."""
+        """A name for a formula, or the formula itself where it is short; equal formulas have one name."""
         if len(term) < 12 and " " not in term:
             return term
-        made = f"{name}_{len(self.definitions)}"
-        self.definitions.append(Definition(made, sort, term))
-        return made
+        if (sort, term) not in self.named:
+            self.named[sort, term] = f"{name}_{len(self.definitions)}"
+            self.definitions.append(Definition(self.named[sort, term], sort, term))
+        return self.named[sort, term]
 
     # Guards.
 
     def guard(self, child):
-        """The truth of a guard. Its conditions are written before it is asked, so what they are then stays."""
-        waiting = [child]
+        """The truth of a guard. The conditions that decide it are written before it is used; a node that also depends on
+        one that is not yet written is built anew where it is used again."""
+        waiting, found = [child], {}
         while waiting:
             at = waiting[-1]
-            if at in self.nodes:
+            if at in self.nodes or at in found:
                 waiting.pop()
                 continue
             node = self.image.nodes[at - 2]
-            open_ = [it for it in (node.low, node.high) if it not in self.nodes]
+            open_ = [it for it in (node.low, node.high) if it not in self.nodes and it not in found]
             if open_:
                 waiting += open_
                 continue
             waiting.pop()
-            there = self.seen_of(self.image.conditions[node.condition])
-            truth = both(there.there, there.value)
-            low, high = self.nodes[node.low], self.nodes[node.high]
-            term = {("false", "true"): truth, ("true", "false"): negated(truth)}.get((low, high), choice(truth, high, low))
-            self.nodes[at] = self.defined("g", "Bool", term)
-        return self.nodes[child]
+            low, high = (found[it] if it in found else self.nodes[it] for it in (node.low, node.high))
+            is_written = self.last.get(self.image.conditions[node.condition], -1) < self.order
+            kept = self.nodes if is_written and node.low in self.nodes and node.high in self.nodes else found
+            kept[at] = self.node(node, low, high)
+        return found[child] if child in found else self.nodes[child]
+
+    def node(self, node, low, high):
+        seen = self.seen_of(self.image.conditions[node.condition])
+        truth = both(seen.there, seen.value)
+        term = {("false", "true"): truth, ("true", "false"): negated(truth)}.get((low, high), choice(truth, high, low))
+        return self.defined("g", "Bool", term)
 
     # Operations.
 
@@ -164,6 +183,7 @@ class Step:
 
     def do(self, operation):
         guard, fields = self.guard(operation.guard), operation.fields
+        self.guards.append(guard)
         if operation.kind == "Read":
             self.read(fields[0], guard)
         elif operation.kind == "Fun":
@@ -176,6 +196,9 @@ class Step:
             self.write(fields[0], guard, f"m{fields[1]}")
         else:
             name = f"m{fields[0]}"
+            if fields[1] in self.seen:
+                # A value is stored whenever it is there, so the two guards are one: properties with this delay know the memory.
+                self.seen[fields[1]] = Seen(guard, self.seen[fields[1]].value)
             self.following[name] = choice(guard, self.seen_of(fields[1]).value, self.following[name])
 
     def read(self, signal, guard):
@@ -230,7 +253,11 @@ def applied(function, terms):
 
 
 class Translated:
-    """A property at an instant: whether it is there, its value, when its own arithmetic has none, and when it ties clocks."""
+    """A property at an instant: whether it is there, its value, when its own arithmetic has none, and when it ties clocks.
+
+    At an instant where it ties clocks nothing is claimed or assumed by it. `holds` is what an assumption says of an
+    instant, and `last` the last operation that it depends on.
+    """
 
     def __init__(self, step, it):
         self.step, self.property = step, it
@@ -239,15 +266,32 @@ class Translated:
         self.there, self.value = seen.there, seen.value
         self.no_value = either(*self.bad)
         self.ties = either(*(when for _, when in self.tied))
+        self.is_seen = both(self.there, negated(self.ties))
+        self.holds = step.defined("h", "Bool", both(negated(self.no_value), either(negated(self.is_seen), self.value)))
+        self.last = max((step.last.get(step.numbers[name], -1) for name in it.signals()), default=-1)
+
+    def broken(self, is_true):
+        """When an instant breaks the claim that the property is always true, or never."""
+        return either(self.no_value, both(self.is_seen, negated(self.value) if is_true else self.value))
+
+    def comes(self):
+        return either(self.is_seen, self.no_value)
 
     def kind(self, node):
         return signal_kinds.kind_of(node, self.property.kinds)
 
-    def memory(self, node):
+    def memory(self, node, part, bad):
+        """The memory of a delay or a cell: one that is there already, if it always holds the same. A value that has more
+        than 64 bits is not kept: no instant counts after it."""
         kind = "integer" if self.kind(node) == "integer" else "boolean"
         value = property_language.constant_in(node.init)
+        following = lambda name: choice(both(part.there, negated(bad)), part.value, name)
+        for it in self.step.memories:
+            if (it.sort, it.value) == (SORTS[kind], value) and self.step.following[it.name] == following(it.name):
+                return it
         made = Memory(f"q{len(self.step.memories)}", SORTS[kind], constant(kind, value), value)
         self.step.memories.append(made)
+        self.step.following[made.name] = following(made.name)
         return made
 
     def of(self, node):
@@ -256,6 +300,7 @@ class Translated:
             return self.step.seen_of(self.step.numbers[name])
         if node.op in ("number", "truth"):
             return Seen("true", constant(self.kind(node), property_language.constant_in([node.at])))
+        known = len(self.bad)
         parts = [self.of(it) for it in node.parts]
         if node.op in property_language.CLOCKS:
             return Seen(self.clock(node.op, parts), "true")
@@ -264,8 +309,7 @@ class Translated:
         if node.op == "default":
             return Seen(either(parts[0].there, parts[1].there), choice(parts[0].there, parts[0].value, parts[1].value))
         if node.op in ("$", "cell"):
-            made = self.memory(node)
-            self.step.following[made.name] = choice(parts[0].there, parts[0].value, made.name)
+            made = self.memory(node, parts[0], either(*self.bad[known:]))
             if node.op == "$":
                 return Seen(parts[0].there, made.name)
             there = either(parts[0].there, both(parts[1].there, parts[1].value))
@@ -285,6 +329,5 @@ class Translated:
             self.tied.append((node, f"(distinct {' '.join(dict.fromkeys(with_clock))})"))
         term, faults = applied(node.op, [it.value for it in parts])
         term = self.step.defined("e", SORTS[self.kind(node)], term)
-        self.bad += [both(there, when) for _, when in faults(term)]
+        self.bad += [self.step.defined("b", "Bool", both(there, when)) for _, when in faults(term)]
         return Seen(there, term)
-

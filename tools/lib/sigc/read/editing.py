@@ -1,5 +1,6 @@
 """Edits of a program's text, and a program that was read as a draft of another one."""
 import difflib
+import itertools
 import re
 from typing import NamedTuple
 
@@ -15,7 +16,7 @@ class Edit(NamedTuple):
 
 
 def applied(text, edits):
-    for it in sorted(edits, key=lambda it: -it.start):
+    for it in sorted(edits, key=lambda it: (-it.start, -it.end)):
         text = text[: it.start] + it.text + text[it.end :]
     return text
 
@@ -95,6 +96,25 @@ def with_inputs(process, kind, names):
     return [Edit(begin, begin, f" {kind} {', '.join(names)}" + (";" if process.inputs else ""))]
 
 
+def with_tellers(process, tellers):
+    """The edits that declare boolean inputs, each directly before the inputs that are declared with another one: pairs of
+    that one and a name."""
+    groups = {}
+    for declaration, name in sorted(tellers, key=lambda it: it[0].name.start):
+        groups.setdefault(declaration.group, []).append(name)
+    return [before_group(process, group, ", ".join(names)) for group, names in groups.items()]
+
+
+def before_group(process, group, names):
+    at = next(at for at, it in enumerate(process.inputs) if it.group is group)
+    before = process.inputs[at - 1] if at else None
+    if process.inputs[at].kind == "boolean":
+        return Edit(process.inputs[at].name.start, process.inputs[at].name.start, f"{names}, ")
+    if before and before.kind == "boolean":
+        return Edit(before.name.end, before.name.end, f", {names}")
+    return Edit(group.start, group.start, f"boolean {names}; ")
+
+
 def with_local(process, kind, name):
     if process.where:
         return [Edit(process.where.end, process.where.end, f" {kind} {name};")]
@@ -114,17 +134,16 @@ def groups_of(kinds):
     return [f"{kind} {', '.join(name for name, it in kinds.items() if it == kind)};" for kind in dict.fromkeys(kinds.values())]
 
 
-def with_kind(process, declaration, kind):
-    """The edits that make one input of another kind: it goes behind the others."""
-    group = [it for it in process.inputs if it.group is declaration.group]
-    if len(group) == 1:
-        return [Edit(declaration.group.start, declaration.group.end, kind)]
-    at, name = group.index(declaration), declaration.name
-    start, end = (group[at - 1].name.end, name.end) if at else (name.start, group[1].name.start)
-    last = process.inputs[-1].name.end
-    if end == last:
-        return [Edit(start, last, f"; {kind} {name.text}")]
-    return [Edit(start, end, ""), Edit(last, last, f"; {kind} {name.text}")]
+def with_kind(process, declarations, kind):
+    """The edits that make inputs of another kind, at their places among the others."""
+    inputs, edits = process.inputs, []
+    kinds = [kind if it in declarations else it.kind for it in inputs]
+    if inputs[0] in declarations:
+        edits.append(Edit(inputs[0].group.start, inputs[0].group.end, kind))
+    for (one, one_kind), (other, other_kind) in itertools.pairwise(zip(inputs, kinds)):
+        if one in declarations or other in declarations:
+            edits.append(Edit(one.name.end, other.name.start, ", " if one_kind == other_kind else f"; {other_kind} "))
+    return edits
 
 
 def without(text, process, equation):

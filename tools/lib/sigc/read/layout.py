@@ -6,7 +6,7 @@ of its own, any other stays behind the word that it follows.
 import re
 from typing import NamedTuple
 
-from sigc.read import syntax
+from sigc.read import syntax, text_limits
 from sigc.read.lexer import PIECE, RESERVED
 
 WIDTH = 120
@@ -287,7 +287,10 @@ def formatted(text):
         raise Unformatted(text.count("\n", 0, at) + 1, at - text.rfind("\n", 0, at), "no word begins here")
     if reader.faults or not reader.processes:
         fault = reader.faults[0].found if reader.faults else reader.here()
-        raise Unformatted(fault.line, fault.col, f"found `{fault.text}`" if fault.text else "the text ends")
+        raise Unformatted(fault.line, fault.col, f"found `{syntax.truncated(fault.text)}`" if fault.text else "the text ends")
+    excess = text_limits.first_excess(reader)
+    if excess:
+        raise Unformatted(excess.piece.line if excess.piece else 0, excess.piece.col if excess.piece else 0, excess.words)
     words = words_of(text)
     made = laid_out(words)
     if told(words_of(made)) != told(words):

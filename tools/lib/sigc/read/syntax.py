@@ -18,6 +18,8 @@ OPERATORS = ("default", "when", "cell", *CLOCK_MARKS, "or", "xor", "and", *RELAT
 BODY_ENDS = ("|", "|)", "where", "process", "end")
 # Expressions that sigc takes stand at most 64 deep; each of them takes some fifteen calls of the reader.
 DEEPEST, CALLS = 200, 20000
+# What stands inside more others than this sigc refuses: brackets, inner processes, operators before their operand.
+NESTED = 64
 MOST_FAULTS = 50
 # A text of more pieces is read up to there.
 MOST_PIECES = 250_000
@@ -146,6 +148,7 @@ class Reader:
         self.pieces, self.strange = pieces_of(text)
         self.is_cut = not is_whole(self.pieces, text)
         self.at, self.wanted, self.open, self.depth = 0, [], [], 0
+        self.nested, self.too_deep = 0, None
         self.processes, self.faults = [], []
 
     def here(self):
@@ -171,6 +174,16 @@ class Reader:
 
     def take(self, *texts):
         return self.step() if self.sees(*texts) else self.stop()
+
+    def nest(self, piece):
+        """Goes into what sigc counts as nested, and keeps the first piece that stands deeper than it takes."""
+        self.nested += 1
+        if self.nested > NESTED and self.too_deep is None:
+            self.too_deep = piece
+        return piece
+
+    def leave(self, count=1):
+        self.nested -= count
 
     def name(self):
         self.wanted.append(("a name",))
@@ -228,6 +241,8 @@ class Reader:
 
     def process(self, parent):
         keyword = self.take("process")
+        if parent:
+            self.nest(keyword)
         self.open.append((keyword, ";"))
         process = Process(keyword, self.name(), parent)
         self.processes.append(process)
@@ -246,6 +261,7 @@ class Reader:
             self.where(process)
         process.end = self.take(";")
         self.open.pop()
+        self.leave(1 if parent else 0)
 
     def interface(self, process):
         self.open.append((self.take("("), ")"))
@@ -312,13 +328,14 @@ class Reader:
         if not self.sees("(|"):
             self.equation(process)
             return
-        self.open.append((self.step(), "|)"))
+        self.open.append((self.nest(self.step()), "|)"))
         if not self.sees("|)"):
             self.tolerant(lambda: self.body(process), BODY_ENDS)
             while not self.sees("|)") and self.separator(process):
                 self.tolerant(lambda: self.body(process), BODY_ENDS)
         self.take("|)")
         self.open.pop()
+        self.leave()
 
     def separator(self, process):
         """Takes the `|` between two equations, and notes a fault where something else stands; whether an equation follows."""
@@ -391,9 +408,10 @@ class Reader:
     def left(self):
         if not self.sees("("):
             return [self.name()]
-        self.step()
+        self.nest(self.step())
         found = self.listed(self.name)
         self.take(")")
+        self.leave()
         return found
 
     def call(self, found):
@@ -439,8 +457,9 @@ class Reader:
     def mixed(self):
         first = self.at
         if self.sees("when"):
-            at = self.step()
+            at = self.nest(self.step())
             node = self.spanned(first, Node("at", at, [self.clocks()]))
+            self.leave()
         else:
             node = self.clocks()
         while self.sees("when", "cell"):
@@ -463,8 +482,9 @@ class Reader:
     def prefixed(self, text, op, part):
         first, marks = self.at, []
         while self.sees(text):
-            marks.append(self.step())
+            marks.append(self.nest(self.step()))
         node = part()
+        self.leave(len(marks))
         for place in range(len(marks) - 1, -1, -1):
             node = self.spanned(first + place, Node(op, marks[place], [node]))
         return node
@@ -483,7 +503,7 @@ class Reader:
         first, node = self.at, self.primary()
         while self.sees("$"):
             node = Node("$", self.step(), [node])
-            if self.here().kind == "number" and int(self.here().text) == 1:
+            if self.here().kind == "number" and self.here().text.lstrip("0") == "1":
                 self.step()
             if self.sees("init"):
                 self.step()
@@ -497,14 +517,17 @@ class Reader:
         if self.is_name() or piece.kind == "number" or piece.text in ("true", "false"):
             return self.spanned(first, Node(piece.kind if piece.text not in ("true", "false") else "truth", self.step(), []))
         if self.sees("^"):
-            at = self.step()
-            return self.spanned(first, Node("^", at, [self.primary()]))
+            at = self.nest(self.step())
+            node = self.spanned(first, Node("^", at, [self.primary()]))
+            self.leave()
+            return node
         if not self.sees("("):
             self.stop()
-        self.open.append((self.step(), ")"))
+        self.open.append((self.nest(self.step()), ")"))
         node = self.expression()
         self.take(")")
         self.open.pop()
+        self.leave()
         return node
 
 

@@ -22,7 +22,7 @@ class Run:
     """A run whose instants are told: iterate over it, and then ask for its end.
 
     Each instant is a map from the names of the signals that are present to their values. end is the line that sigc says
-    at the end, with places of the program, copy the copy that it speaks of, and status sigc's.
+    at the end, with places of the program, kernel_end the same with places of its kernel, copy the copy that it speaks of, and status sigc's.
     """
 
     def __init__(self, files, path, flows_path, words=()):
@@ -30,10 +30,11 @@ class Run:
         self.laid = laid = Laid(files, path, "--pace" in words)
         self.program, self.classes, self.flat, self.paces = laid.program, laid.classes, laid.flat, laid.paces
         self.observed = laid.observed()
-        self.flows_text = running.text_of(flows_path)
+        self.home = self.program.home
+        self.flows_text = self.home.flows(flows_path, running.text_of(flows_path))
         self.flows = files.copied(flows_path, self.flows_text)
         self.source = files.written("observed.sig", self.observed.text, path)
-        self.end, self.copy, self.status = "", "", 0
+        self.end, self.kernel_end, self.copy, self.status = "", "", "", 0
 
     def __iter__(self):
         with self.call() as call:
@@ -50,29 +51,35 @@ class Run:
         if self.status not in (0, 3):
             told = " once every signal is an output" if self.status == 1 else ""
             raise running.Refused(self.files.renamed(line) + told, self.status)
-        self.end, self.copy = self.observed.end_of(line)
+        line, self.copy = self.observed.end_of(line)
+        self.kernel_end, self.end = line, self.home.end(line)
 
     def instants(self, lines):
         """What the observed program writes, instant by instant. Where it writes something, the flows have a reading."""
-        first = next(lines, None)
-        if first is None:
-            return
-        speakers, marker, instant = self.speakers(), self.observed.marker, None
-        for line in itertools.chain([first], lines):
-            name, _, value = line.partition(" ")
-            if name == marker:
-                if instant is not None:
-                    yield instant
-                instant = {}
-            for signal, flow in speakers[name]:
-                instant[signal] = value if flow is None else next(flow)
-        yield instant
+        return instants_of(self.observed, lines, lambda: flow_values.read_flows(self.flows_text, [it.name for it in self.flat.inputs()]))
 
-    def speakers(self):
-        """For each name that is written the signals that it speaks for, each input with the values of its flow."""
-        flows, sources = flow_values.read_flows(self.flows_text, [it.name for it in self.flat.inputs()]), self.observed.sources
-        rest = {name: map(flow_values.normal, flows[source]) for name, source in sources.items()}
-        return {name: [(it, rest.get(it)) for it in signals] for name, signals in self.observed.names.items()}
+
+def instants_of(observed, lines, flows):
+    """The instants of what an observed program writes. flows() gives the values of each input; it is called where something is written."""
+    first = next(lines, None)
+    if first is None:
+        return
+    speakers, marker, instant = speakers_of(observed, flows()), observed.marker, None
+    for line in itertools.chain([first], lines):
+        name, _, value = line.partition(" ")
+        if name == marker:
+            if instant is not None:
+                yield instant
+            instant = {}
+        for signal, flow in speakers[name]:
+            instant[signal] = value if flow is None else next(flow)
+    yield instant
+
+
+def speakers_of(observed, flows):
+    """For each name that is written the signals that it speaks for, each input with the values of its flow."""
+    rest = {name: map(flow_values.normal, flows[source]) for name, source in observed.sources.items()}
+    return {name: [(it, rest.get(it)) for it in signals] for name, signals in observed.names.items()}
 
 
 def trace_of(text):
@@ -99,8 +106,8 @@ def called(value, states):
 
 
 def is_in(name, asked):
-    """Whether a signal is the one that is asked for, or one of the copy that is."""
-    return name == asked or name.startswith(f"{asked}.")
+    """Whether a signal is the one that is asked for, or one of the copy or the array that is."""
+    return name == asked or name.startswith((f"{asked}.", f"{asked}["))
 
 
 def at_least(least):

@@ -18,20 +18,21 @@ def folded(words, indent=""):
 class Names:
     """How signals are written: those of a copy behind its path."""
 
-    def __init__(self, flat, is_all):
-        self.flat, self.is_all = flat, is_all
+    def __init__(self, flat, is_all, home=None):
+        self.flat, self.is_all, self.home = flat, is_all, home
 
     def path(self, copy):
         return "/".join(self.flat.path(copy)) if self.flat and copy in self.flat.parents else copy
 
     def shown(self, signals):
         """The signals that are shown: without --all those of the compiler are left out."""
-        return [it for it in signals if self.is_all or not plans.is_intermediate(it)]
+        return [it for it in signals if (self.is_all or not plans.is_intermediate(it)) and (not self.home or self.home.is_known(it))]
 
     def lines(self, signals):
         """The lines of a list of signals: those of the first process, then those of each copy."""
         copies = {}
         for it in self.shown(signals):
+            it = self.home.name(it) if self.home else it
             copy, _, own = it.rpartition(".")
             copies.setdefault(copy, []).append(own)
         lines = folded(copies.pop("", []))

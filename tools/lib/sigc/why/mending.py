@@ -8,22 +8,29 @@ from typing import NamedTuple
 
 from sigc.call.compiler import limit_of
 from sigc.read.editing import fresh, with_equation, with_local, without, Draft, Edit
-from sigc.read.syntax import FUNCTIONS, RELATIONS, source_of, walk
+from sigc.read.syntax import FUNCTIONS, RELATIONS, SUMS, source_of, walk
 from sigc.why.causes import told_of
-from sigc.why.changed_signals import by_change
+from sigc.why.circles import breakers, circles_of, existing_delay, uses_in
 from sigc.why.loops import definitions
+from sigc.why.reaction_clauses import Reactions
 from sigc.why.ties import clocks, roots
+from sigc.why.unreached import never_taken
+from sigc.why.weighed import by_meaning
 
 CALLS, SECONDS, DEEPEST = 160, 20, 6
+# How many ways to break circles are tried, and which refusals behind a step are gone on with first.
+MOST_WAYS = 12
+LATER = ("root", "clock", "cycle", "forced", "dead")
 # How many mends are put in order: fewer of a program of so many bytes, and few behind one step.
 MOST_FOUND, MOST_OF_LONG, LONG, MOST_BEHIND = 6, 3, 6000, 2
 
 
 class Mend(NamedTuple):
-    """What was done, and the text that sigc accepts."""
+    """What was done, the text that sigc accepts, and what it changes of what was written."""
 
     words: str
     text: str
+    notes: tuple = ()
 
 
 def is_rare(node, defined, is_deep=False):
@@ -73,6 +80,7 @@ def held(draft):
     """The last value of a signal that is taken where a boolean is true, beside one that comes oftener."""
     for process in draft.processes:
         clocked = clocked_by_when(process)
+        yield from added(draft, process, clocked)
         values = {it.name.text: "0" if it.kind == "integer" else "false" for it in process.names()}
         for node in (it for equation in process.equations for whole in equation.expressions() for it in walk(whole)):
             names = [it.at.text for it in node.parts if it.op == "name"] if node.op in FUNCTIONS else []
@@ -81,6 +89,32 @@ def held(draft):
                     words = f"{rare} cell ^{other} init {values[rare]}"
                     at = next(it for it in node.parts if it.at.text == rare)
                     yield f"the last value of {rare} at each {other}", draft.edited([Edit(at.start, at.end, f"({words})")])
+
+
+def added(draft, process, clocked):
+    """0 for a term of a sum where it does not come."""
+    for node in (it for equation in process.equations for whole in equation.expressions() for it in walk(whole)):
+        names = [it.at.text for it in node.parts if it.op == "name"] if node.op in SUMS else []
+        for rare, other in (names, names[::-1]) if len(names) == 2 else ():
+            if rare in clocked and other not in clocked:
+                at = next(it for it in node.parts if it.at.text == rare)
+                yield f"{rare} default 0 where it does not come", draft.edited([Edit(at.start, at.end, f"({rare} default (0 when ^{other}))")])
+
+
+def taken_first(text):
+    """Texts in which a function left of a `default` comes where its input does: as it stands, what is right of it never counts.
+    The other operands are taken where the input comes."""
+    draft = Draft(text)
+    inputs = {it.name.text for it in draft.first.inputs}
+    reactions = Reactions(draft.first).merge()
+    for node in (it for equation in draft.first.equations for whole in equation.expressions() for it in walk(whole)):
+        left = node.parts[0] if node.op == "default" else None
+        if left is None or left.op not in FUNCTIONS or len(left.parts) != 2 or not never_taken(text, node, reactions):
+            continue
+        for one, other in (left.parts, left.parts[::-1]):
+            if one.op == "name" and one.at.text in inputs and other.op not in ("number", "truth") and not (other.op == "name" and other.at.text in inputs):
+                words = source_of(text, other)
+                yield f"{words} when ^{one.at.text} in `{source_of(text, left)}`, which comes where {one.at.text} does", draft.edited([Edit(other.start, other.end, f"({words} when ^{one.at.text})")])
 
 
 def clocked_by_when(process):
@@ -122,6 +156,32 @@ def completed(draft):
                 start = len(draft.text[: last.at.start].rstrip())
                 condition = source_of(draft.text, last.parts[1])
                 yield f"without the condition {condition} of the last default", draft.edited([Edit(start, last.end, "")])
+
+
+def kept_on(draft):
+    """The value before of a signal that comes only where one of its conditions is true, where none is; first of signals of
+    which the program has that value."""
+    for process in draft.processes:
+        firsts = {it.name.text: "0" if it.kind == "integer" else "false" for it in process.signals() if it.kind != "event"}
+        for equation in process.equations:
+            if equation.form != "definition" or not is_open(equation.right):
+                continue
+            name = equation.lefts[0].text
+            before = existing_delay(draft.text, process, name) or f"({name} $ init {firsts.get(name)})"
+            if name in firsts:
+                yield f"{name} keeps its value, {before}, where no condition of it is true", draft.edited([Edit(equation.right.start, equation.right.end, with_side(draft.text, equation.right, before))])
+
+
+def is_open(node):
+    """Whether an expression comes only where a condition is true, by itself or as the last side of a `default`."""
+    last = node.parts[1] if node.op == "default" else node
+    return last.op == "when" and last.parts[1].op != "^"
+
+
+def with_side(text, node, side):
+    """An expression with one side of a `default` more."""
+    source = text[node.start : node.end]
+    return f"{source} default {side}" if node.op == "default" or source.startswith("(") and source.endswith(")") else f"({source}) default {side}"
 
 
 def is_comparison(node):
@@ -180,6 +240,7 @@ def loosened(draft):
 
 def delayed(draft, told):
     """A delay in the place of a signal that is needed to compute itself."""
+    yield from broken_circles(draft)
     process, declaration = draft.owner(told.names[0])
     if declaration is None:
         return
@@ -193,6 +254,33 @@ def delayed(draft, told):
                         yield f"{words} for {it.name.text} at {node.at.line}:{node.at.col}", draft.edited([Edit(node.start, node.end, f"({words})")])
 
 
+def broken_circles(draft):
+    """The value before of one signal in each circle of equations, named as the program names it where it does."""
+    for process in draft.processes:
+        circles = circles_of(process)
+        ways = [[delays_of(draft, process, circle, names) for names in breakers(process, circle)] for circle in circles]
+        if not circles or not all(ways):
+            continue
+        for chosen in sorted(itertools.islice(itertools.product(*map(enumerate, ways)), MOST_WAYS), key=lambda it: sum(at for at, _ in it)):
+            edits = [edit for _, (_, edits) in chosen for edit in edits]
+            yield ", ".join(words for _, (words, _) in chosen), draft.edited(edits)
+
+
+def delays_of(draft, process, circle, names):
+    """The values before of signals of a circle, in the place of these, as words and edits."""
+    found = [delay_of(draft, process, circle, it) for it in names]
+    return ", ".join(words for words, _ in found), [edit for _, edits in found for edit in edits]
+
+
+def delay_of(draft, process, circle, name):
+    """The value before of a signal of a circle, in the place of the signal, as words and edits."""
+    value = "0" if process.declaration(name).kind == "integer" else "false"
+    words = existing_delay(draft.text, process, name) or f"({name} $ init {value})"
+    uses = list(uses_in(process, circle, name))
+    lefts = " and ".join(dict.fromkeys(left for left, _ in uses))
+    return f"{words} for {name} in {lefts}", [Edit(node.start, node.end, words) for _, node in uses]
+
+
 def candidates(text, told):
     """What may mend a text that is refused in this way, the likeliest first."""
     draft = Draft(text)
@@ -204,7 +292,9 @@ def candidates(text, told):
     elif told.sort == "cycle":
         yield from delayed(draft, told)
     else:
+        yield from broken_circles(draft)
         yield from named_once(draft)
+        yield from kept_on(draft)
         yield from narrowed(draft)
         yield from held(draft)
         yield from kept(draft)
@@ -222,15 +312,27 @@ def mends_of(sigc, text, most=2, limit=None):
         return []
     limit = limit or limit_of(sigc, CALLS, SECONDS)
     found = []
-    for it in tried(sigc, text, told, (), DEEPEST, limit):
+    for it in begun_anew(sigc, text, told, limit):
         if it.text not in [other.text for other in found]:
             found.append(it)
         if len(found) >= (MOST_FOUND if len(text) < LONG else MOST_OF_LONG):
             break
-    found = by_change(sigc, text, found)
+    found = by_meaning(sigc, text, found)
     firsts = {it.words.split("; ")[0]: it for it in reversed(found)}
     begun = [it for it in found if it in firsts.values()]
     return [*begun, *(it for it in found if it not in begun)][:most]
+
+
+def begun_anew(sigc, text, told, limit):
+    """Mends of a text, first of what makes a part of it count that would never do so."""
+    for words, new in itertools.islice(taken_first(text), MOST_BEHIND):
+        refusal = sigc.check(new)
+        other = told_of(refusal.text) if refusal else None
+        if refusal is None:
+            yield Mend(words, new)
+        elif other:
+            yield from itertools.islice(tried(sigc, new, other, (words,), DEEPEST, limit), MOST_BEHIND)
+    yield from tried(sigc, text, told, (), DEEPEST, limit)
 
 
 def tried(sigc, text, told, done, depth, limit):
@@ -240,12 +342,18 @@ def tried(sigc, text, told, done, depth, limit):
             return
         refusal = sigc.check(new)
         if refusal is None:
-            yield Mend("; ".join((*done, words)), new)
+            yield Mend(joined_words((*done, words)), new)
             continue
         other = told_of(refusal.text)
-        if other and other != told and other.sort in ("root", "clock", "cycle"):
-            later.append((words, new, other))
+        if other and other != told and (other.sort in ("root", "clock", "cycle") or told.sort in ("root", "clock")):
+            later.append((words, new, other, refusal.text))
     if depth > 1:
-        for words, new, other in later[:3]:
-            behind = tried(sigc, new, other, (*done, words), depth - (1 if other.sort == "root" else 3), limit)
+        for words, new, other, said in sorted(later, key=lambda it: LATER.index(it[2].sort))[:3]:
+            named = words if other.sort == told.sort == "root" else f"{words}; then sigc says `{said}`, and"
+            behind = tried(sigc, new, other, (*done, named), depth - (1 if other.sort == "root" else 3), limit)
             yield from itertools.islice(behind, MOST_BEHIND)
+
+
+def joined_words(steps):
+    """The words of several steps; one that names the next refusal is gone on with at once."""
+    return "; ".join(steps).replace(", and; ", ", and ")

@@ -1,6 +1,7 @@
 """Mends of programs that do not say when a signal comes: clock equations, and boolean inputs that tell whether others come."""
-from sigc.read.editing import fresh, names_in, with_equation, with_inputs, with_kind
-from sigc.read.syntax import walk, words_in
+from sigc.read.editing import Edit, fresh, names_in, with_equation, with_kind, with_tellers
+from sigc.read.syntax import FUNCTIONS, walk, words_in
+from sigc.why.circles import graph_of, made_of
 from sigc.why.loops import above, untied
 
 MOST_WALKED = 10_000
@@ -30,18 +31,25 @@ def of_two(draft, x, y):
     """Mends of two signals of the first process: an event as a boolean, one clock for both, each by itself, one by the other."""
     first = draft.first
     asked_events = [it for it in (y, x) if it.role == "input" and it.kind == "event" and is_asked(first, name_of(it))]
-    if len(asked_events) == 2:
-        yield apart(draft, x, y)
+    for it, other in ((x, y), (y, x)):
+        if it.kind == "boolean" and other.role == it.role == "input" and other.kind == "event" and name_of(it) in tied_names(first):
+            yield beside(draft, other, it)
+    is_merged = x.role == y.role == "input" and are_merged(first, x, y)
+    if len(asked_events) == 2 or is_merged and {x.kind, y.kind} != {"boolean"} and {x.kind, y.kind} != {"integer"}:
+        yield by_themselves(draft, x, y)
     for it in asked_events:
         yield as_boolean(draft, first, it, y if it is x else x)
     if y.role == "input" and x in telling(first):
+        if y.kind == "boolean" and is_asked(first, name_of(y)):
+            yield draft.equated(first, f"{name_of(y)} ^= {name_of(x)}")
         yield beside(draft, y, x)
     if y.role != "input":
         yield from of_loops(draft, x, y)
     one, other = (y, x) if y.role != "input" else (x, y)
     together = draft.equated(first, f"{name_of(one)} ^= {name_of(other)}")
     if x.role == y.role == "input" and x not in telling(first):
-        yield from sorted([together, apart(draft, x, y)], key=lambda it: it is together, reverse=meet(first, x, y))
+        is_first = meet(first, x, y) and (not is_merged or x.kind == y.kind == "boolean")
+        yield from sorted([together, apart(draft, x, y)], key=lambda it: it is together, reverse=is_first)
     else:
         yield together
     for a, b in ((x, y), (y, x)):
@@ -96,21 +104,47 @@ def told_by_others(draft, declarations):
                 yield draft.equated(draft.first, f"{name_of(it)} ^= when {name_of(teller)}")
 
 
+def tellers_of(draft, inputs):
+    """Booleans that tell whether inputs come, with the edits and the equations that this takes: an event itself becomes
+    one, and beside any other input stands a new one."""
+    names = [name_of(it) if it.kind == "event" else fresh(draft.first, f"{name_of(it)}_COMES") for it in inputs]
+    edits = as_asked(draft.first, [it for it in inputs if it.kind == "event"])
+    pairs = [(it, name) for it, name in zip(inputs, names) if it.kind != "event"]
+    return names, edits + with_tellers(draft.first, pairs), [f"{name_of(it)} ^= when {name}" for it, name in pairs]
+
+
+def by_themselves(draft, x, y):
+    """Two inputs that are merged: a boolean says yes or no each time, so it is there for both; else each has one of its own."""
+    found = {it.kind: it for it in (x, y)}
+    return beside(draft, found["integer"], found["boolean"]) if set(found) == {"integer", "boolean"} else apart(draft, x, y)
+
+
 def apart(draft, x, y):
-    """Two inputs, of which each comes where a new boolean is true; the booleans come together."""
-    names = [fresh(draft.first, f"{name_of(it)}_COMES") for it in (x, y)]
-    equations = [" ^= ".join(names), *(f"{name_of(it)} ^= when {name}" for it, name in zip((x, y), names))]
-    edits = with_inputs(draft.first, "boolean", names) + with_equation(draft.text, draft.first, *equations)
-    told = " and ".join(names)
-    return f"two boolean inputs {told}, which come together and tell at each instant whether {name_of(x)} and {name_of(y)} come", draft.edited(edits)
+    """Two inputs, of which each comes where a boolean is true; the booleans come together."""
+    names, edits, equations = tellers_of(draft, (x, y))
+    edits = edits + with_equation(draft.text, draft.first, " ^= ".join(names), *equations)
+    return apart_words((x, y), names), draft.edited(edits)
+
+
+def apart_words(inputs, names):
+    """Which booleans come together and tell whether two inputs come."""
+    events = [name_of(it) for it in inputs if it.kind == "event"]
+    if len(events) == 2:
+        return f"{' and '.join(events)} as booleans, which come together"
+    new = [(name, name_of(it)) for it, name in zip(inputs, names) if it.kind != "event"]
+    if events:
+        return f"a boolean input {new[0][0]}, which tells whether {new[0][1]} comes, and {events[0]} as a boolean; the two come together"
+    (one, x), (other, y) = new
+    return f"two boolean inputs {one} and {other}, which come together and tell at each instant whether {x} and {y} come"
 
 
 def beside(draft, it, pace):
-    """An input that comes where a new boolean is true, which comes with another signal."""
-    name, told = name_of(it), fresh(draft.first, f"{name_of(it)}_COMES")
-    equations = [f"{told} ^= {name_of(pace)}", f"{name} ^= when {told}"]
-    edits = with_inputs(draft.first, "boolean", [told]) + with_equation(draft.text, draft.first, *equations)
-    return f"a boolean input {told}, which comes with {name_of(pace)} and tells whether {name} comes", draft.edited(edits)
+    """An input that comes where a boolean is true, which comes with another signal."""
+    if it.kind == "event":
+        return as_boolean(draft, draft.first, it, pace)
+    (told,), edits, equations = tellers_of(draft, (it,))
+    edits = edits + with_equation(draft.text, draft.first, f"{told} ^= {name_of(pace)}", *equations)
+    return f"a boolean input {told}, which comes with {name_of(pace)} and tells whether {name_of(it)} comes", draft.edited(edits)
 
 
 def meet(process, x, y):
@@ -127,11 +161,11 @@ def meet(process, x, y):
 
 def are_merged(process, x, y):
     """Whether something is there where one of two signals is, so that each of them may come without the other."""
-    names = {name_of(x), name_of(y)}
+    names, graph = {name_of(x), name_of(y)}, graph_of(process)
     for equation in process.equations:
         for node in (it for whole in equation.expressions() for it in walk(whole)):
-            if node.op in ("default", "^+"):
-                one, other = ({it.at.text for it in walk(part) if it.op == "name"} & names for part in node.parts)
+            if node.op in ("default", "^+", "cell"):
+                one, other = (made_of(part, graph) & names for part in node.parts)
                 if one and other and one != other:
                     return True
     return False
@@ -216,20 +250,38 @@ def named(node):
 def as_boolean(draft, process, event, pace):
     """A boolean in the place of an event, at the clock of another signal."""
     words = f"{name_of(event)} ^= {name_of(pace)}"
-    edits = with_kind(process, event, "boolean") + with_equation(draft.text, process, words)
+    edits = as_asked(process, [event]) + with_equation(draft.text, process, words)
     return f"{name_of(event)} as a boolean that comes with {name_of(pace)}", draft.edited(edits)
+
+
+def as_asked(process, events):
+    """The edits that make booleans of events: what came with an event now comes where the boolean is true."""
+    names = {name_of(it) for it in events}
+    uses = [use for equation in process.equations for whole in equation.expressions() for use in uses_of(whole, names, None)]
+    return (with_kind(process, events, "boolean") if events else []) + [Edit(node.start, node.end, words) for node, words in uses]
+
+
+def uses_of(node, names, around):
+    """The uses of events that are not asked for their truth, each with what stands for it once the event is a boolean."""
+    if node.op == "name" and node.at.text in names:
+        name = node.at.text
+        is_asked_for = around and (around.op in (*FUNCTIONS, "at") or around.op in ("when", "cell") and node is around.parts[-1])
+        if not is_asked_for:
+            yield node, f"(when {name})" if around else f"when {name}"
+    for it in node.parts:
+        yield from uses_of(it, names, node)
 
 
 def asked(draft, process, declaration):
     """An input that comes now and then: as a boolean, where a new boolean is true, and where another one is, which has
     a meaning of its own."""
     others = [it for it in process.inputs if it is not declaration]
+    for it in others:
+        if are_merged(process, declaration, it):
+            yield by_themselves(draft, declaration, it)
     if declaration.kind == "event":
         for it in others:
             yield as_boolean(draft, process, declaration, it)
-    for it in others:
-        if are_merged(process, declaration, it):
-            yield apart(draft, declaration, it)
     for it in others:
         yield beside(draft, declaration, it)
     for it in process.signals():
