@@ -23,7 +23,7 @@ BOUNDS = {
     "docs/clocks.md": 14_336,
     "docs/errors.md": 28_672,
     "docs/formats.md": 20_480,
-    "docs/from-lustre.md": 9_728,
+    "docs/from-lustre.md": 9_984,
     "docs/gate-costs.md": 3_840,
     "docs/gate.md": 4_480,
     "docs/glossary.md": 4_864,

@@ -67,8 +67,8 @@ class Opened:
         return name if self.is_kernel else self.expansion.name(name)
 
     def is_known(self, name):
-        """Whether a signal of the kernel is one of the user's, and not one that the expansion made."""
-        return self.is_kernel or not re.search(r"[ ]|^#", self.name(name))
+        """Whether a signal of the kernel is one of the user's, and not one that the expansion made, as the value before the first element."""
+        return self.is_kernel or not re.search(r"[ ]|^#|\[-1\]", self.name(name))
 
     def kernel_name(self, name):
         return name if self.is_kernel else self.expansion.kernel_name(name)

@@ -35,7 +35,24 @@ def enumerated(values: list, at: At, scope) -> list:
     if any(sizes_of(it) != sizes_of(values[0]) for it in values):
         raise Refused(at, "sizes differ", "the elements are " + ", ".join(shape_of(it) for it in values))
     terms = iter(tied(leaves(values), at, scope))
+    return together(mapped(lambda _: next(terms), values), scope)
+
+
+def together(values: list, scope) -> list:
+    """An array whose elements come together, bare constants with the others."""
+    terms = iter(coming(leaves(values), scope))
     return mapped(lambda _: next(terms), values)
+
+
+def coming(terms: list[Term], scope) -> list[Term]:
+    """Elements of which bare constants come with the others, also where each element is taken by itself."""
+    at = next((number for number, it in enumerate(terms) if not is_constant(it)), None)
+    if at is None or not any(is_constant(it) for it in terms):
+        return terms
+    first = terms[at] if clock_of(terms[at]) else scope.unit.named(alone(terms[at]), "OPERAND", scope.pace())
+    comes = Term("clock", "event", first.at, [first])
+    terms = [*terms[:at], first, *terms[at + 1 :]]
+    return [Term("when", it.kind, it.at, [it, comes]) if is_constant(it) else it for it in terms]
 
 
 def in_range(index: int, size: int, at: At) -> int:
@@ -87,7 +104,7 @@ def changed(index: Term, new, value, at: At, scope) -> list:
     tied([index, leaves(new)[0], leaves(value)[0]], at, scope)
     if is_constant(index):
         number = in_range(index.data, len(value), index.at)
-        return [*value[:number], rows[number], *value[number + 1 :]]
+        return together([*value[:number], rows[number], *value[number + 1 :]], scope)
     index = scope.unit.named(index, "INDEX", scope.pace())
     cases = [scope.unit.comparisons.of(index.data, INTEGER, number, at) for number in range(len(value))]
     return [replaced(*it, at) for it in zip(rows, value, cases)]
