@@ -34,7 +34,7 @@ BOUNDS = {
     "docs/proofs.md": 7_040,
     "docs/shipping.md": 20_480,
     "docs/signal.md": 28_672,
-    "docs/spreading.md": 9_472,
+    "docs/spreading.md": 9_984,
     "docs/threads.md": 8_704,
     "docs/top-call.md": 4_096,
     "docs/tutorial.md": 25_344,
