@@ -1,22 +1,22 @@
 -- A file that is laid out has the tokens that its unit is written with.
-use Rattle.std.proofs.Common.{◌≡◌, replicate, ℕ, zero, suc, ◌<◌, ◌≤◌, ◌^◌, List, [], ◌∷◌, ◌++◌, length, Bool, true, false, ◌&&◌, ◌||◌, not, Option, None, Some, refl, sym, ap, ◌∙◌, append_assoc, append-nil, arith, decimal, nat_eq, ℤ, map, subst}
+use Rattle.std.proofs.Common.{◌≡◌, replicate, ℕ, zero, suc, ◌<◌, ◌≤◌, ◌^◌, List, [], ◌∷◌, ◌++◌, length, Bool, true, false, ◌&&◌, ◌||◌, not, Option, None, Some, refl, sym, ap, ◌∙◌, append_assoc, append-nil, arith, decimal, nat_eq, nat_le, ℤ, map, subst}
 use Rattle.std.specs.Prelude.{codes, if◌then◌else◌}
 use Rattle.std.specs.List.{list_all}
 use Rattle.std.proofs.lemmas.List.{length-map}
 use Rattle.std.proofs.lemmas.Bool.{and_parts}
 use Rattle.sig_base.specs.Traces.{has_64_bits}
-use Rattle.sig_c.specs.SmallC.{Name, Helper, Add, Subtract, Multiply, Quotient, Remainder, Width, Truth, Wide, FieldOfState, Header, Declared, EndCause, Done, Exhausted, Overflow, DivisionByZero, EndRow, Statements, TranslationUnit}
-use Rattle.sig_c.specs.Helpers.{body_of}
+use Rattle.sig_c.specs.SmallC.{Name, HelperDefinition, Width, Truth, Wide, FieldOfState, Header, Declared, EndCause, Done, Exhausted, Overflow, DivisionByZero, EndRow, Statements, TranslationUnit}
 use Rattle.sig_c.specs.Tokens.{Token, Word, Sign, Quoted, Directive, Mode, Fresh, Between, InComment, InDirective, InQuotes, Escaped, Scanned, scan, scan_byte, scan_next, scanned, HasTokens, is_printable, is_refused, is_letter, is_word_byte}
 use Rattle.sig_c.specs.Written.{Scope, name_at, number_tokens, first_tokens, firsts_tokens, first_statements, init_tokens, width_text, first_value_tokens, declared_tokens, variables_tokens, step_tokens, unit_tokens, scope_of, prefixed, cause_text, row_tokens, rows_tokens, ends_tokens, helper_scope, helper_tokens, helpers_tokens, statements_tokens, helper_name}
-use Rattle.sig_c.specs.Names.{is_free, AreFree, HaveBits, IsFirst, AreVariables, IsUnit, AreNames, AreStatements, IsRow, AreRows, begins_with_letter}
+use Rattle.sig_c.specs.Names.{is_free, AreFree, HaveBits, IsFirst, AreVariables, IsUnit, AreNames, AreStatements, IsRow, AreRows, begins_with_letter, is_file_byte, is_file_name, AreHelpers, is_of_library, is_prefix}
 use Rattle.sig_c.specs.Layout.{number_text, AreLaid, lines_text}
-use Rattle.sig_c.specs.File.{first_text, firsts_text, first_lines, init_text, first_value_text, declared_text, variables_text, step_text, file_text, IsFile, prefixed_text, is_escaped, escaped_text, row_text, rows_text, ends_text, ArePrintable, is_comment_behind, AreComments, comment_lines, comment_text, is_file_byte, include_text, blanks, helper_text, helpers_text}
+use Rattle.sig_c.specs.File.{first_text, firsts_text, first_lines, init_text, first_value_text, declared_text, variables_text, step_text, file_text, IsFile, prefixed_text, is_escaped, escaped_text, row_text, rows_text, ends_text, ArePrintable, is_comment_behind, AreComments, comment_lines, comment_text, AreHelpersLaid, include_text, blanks, helper_text, helpers_text}
 use Rattle.sig_c.proofs.Words.{or_parts}
 use Rattle.sig_c.proofs.FreeNames.{free_at, free_first}
 use Rattle.sig_c.proofs.Scanning.{Makes}
 use Rattle.sig_c.proofs.Layouts.{then_makes, Closes, blank, comma, semicolon, opening, name_word, number_piece, behind_run, IsWordText, Piece, word_piece, decimal_word}
 use Rattle.sig_c.proofs.Lines.{helper_piece, lines_whole}
+use Rattle.sig_c.proofs.HelperBodies.{helper_names}
 
 -- A text that the rest of a file follows makes these tokens.
 abbrev pub Then : (List ℕ → List ℕ) → List Token → Type 0
@@ -78,66 +78,58 @@ comment_then lines are rest mode others makes = lines_pass lines rest mode other
 
 -- ---- the header that is included
 
-file_byte : (byte : ℕ) → is_file_byte byte ≡ true → (is_printable byte ≡ true) × (nat_eq byte 10 ≡ false) × (nat_eq byte 92 ≡ false)
-file_byte byte is = (grind (arith, is), grind (arith, is), grind (arith, is))
+-- what no such byte is
+record IsOfFile (byte : ℕ) : Type 0 where
+  printable : is_printable byte ≡ true
+  line : nat_eq byte 10 ≡ false
+  backslash : nat_eq byte 92 ≡ false
+  mark : nat_eq byte 63 ≡ false
+  star : nat_eq byte 42 ≡ false
 
-directive_byte : (before : List ℕ) (byte : ℕ) → is_file_byte byte ≡ true → scan_byte (InDirective before) [] byte ≡ scanned (InDirective (before ++ byte ∷ [])) []
-directive_byte before byte is = let parts = file_byte byte is in rw parts.1 (rw parts.0 (rw parts.2 refl))
+file_byte : (byte : ℕ) → is_file_byte byte ≡ true → IsOfFile byte
+file_byte byte is = record { printable = grind (arith, is); line = grind (arith, is); backslash = grind (arith, is); mark = grind (arith, is); star = grind (arith, is) }
 
-directive_passes : (name before : List ℕ) (rest : List ℕ) (mode : Mode) (others : List Token) → list_all is_file_byte name ≡ true → Makes (InDirective (before ++ name)) rest mode others
-    → Makes (InDirective before) (name ++ rest) mode others
-directive_passes [] before rest mode others is makes = ap (λ (l : List ℕ). scan rest (record { mode = InDirective l; tokens = [] })) (sym (append-nil before)) ∙ makes
-directive_passes (byte ∷ name) before rest mode others is makes =
+directive_byte : (last : ℕ) (before : List ℕ) (byte : ℕ) → is_file_byte byte ≡ true → scan_byte (InDirective last before) [] byte ≡ scanned (InDirective byte (before ++ byte ∷ [])) []
+directive_byte last before byte is =
+    let it = file_byte byte is in
+    rw it.line (rw it.printable (rw it.backslash (rw it.mark (rw it.star (rw (and_false (nat_eq last 63)) (rw (and_false (nat_eq last 47)) refl))))))
+
+-- the last quotation mark
+quote_within : (last : ℕ) (before : List ℕ) → scan_byte (InDirective last before) [] 34 ≡ scanned (InDirective 34 (before ++ 34 ∷ [])) []
+quote_within last before = rw (and_false (nat_eq last 63)) (rw (and_false (nat_eq last 47)) refl)
+
+directive_passes : (name : List ℕ) (last : ℕ) (before : List ℕ) (rest : List ℕ) (mode : Mode) (others : List Token) → list_all is_file_byte name ≡ true
+    → Makes (InDirective (last_of last name) (before ++ name)) rest mode others → Makes (InDirective last before) (name ++ rest) mode others
+directive_passes [] last before rest mode others is makes = ap (λ (l : List ℕ). scan rest (record { mode = InDirective last l; tokens = [] })) (sym (append-nil before)) ∙ makes
+directive_passes (byte ∷ name) last before rest mode others is makes =
     let parts = and_parts (is_file_byte byte) (list_all is_file_byte name) is in
-    ap (scan_next (scan (name ++ rest))) (directive_byte before byte parts.0)
-    ∙ directive_passes name (before ++ byte ∷ []) rest mode others parts.1 (ap (λ (l : List ℕ). scan rest (record { mode = InDirective l; tokens = [] })) (append_assoc before (byte ∷ []) name) ∙ makes)
+    ap (scan_next (scan (name ++ rest))) (directive_byte last before byte parts.0)
+    ∙ directive_passes name byte (before ++ byte ∷ []) rest mode others parts.1
+    (ap (λ (l : List ℕ). scan rest (record { mode = InDirective (last_of byte name) l; tokens = [] })) (append_assoc before (byte ∷ []) name) ∙ makes)
 
-pub include_then : (name : Name) → list_all is_file_byte name ≡ true → Then (include_text name) (Directive (codes "include \"" ++ (name ++ codes "\"")) ∷ [])
+bytes_of_name : (name : Name) → is_file_name name ≡ true → list_all is_file_byte name ≡ true
+bytes_of_name [] is = refl
+bytes_of_name (byte ∷ bytes) is = is
+
+pub include_then : (name : Name) → is_file_name name ≡ true → Then (include_text name) (Directive (codes "include \"" ++ (name ++ codes "\"")) ∷ [])
 include_then name is rest mode others makes =
-    directive_passes name (codes "include \"") (codes "\"\n" ++ rest) mode (Directive (codes "include \"" ++ (name ++ codes "\"")) ∷ others) is
-    (then_makes (Directive ((codes "include \"" ++ name) ++ codes "\"") ∷ []) Fresh rest mode others makes
+    directive_passes name 34 (codes "include \"") (codes "\"\n" ++ rest) mode (Directive (codes "include \"" ++ (name ++ codes "\"")) ∷ others) (bytes_of_name name is)
+    (ap (scan_next (scan (codes "\n" ++ rest))) (quote_within (last_of 34 name) (codes "include \"" ++ name))
+    ∙ then_makes (Directive ((codes "include \"" ++ name) ++ codes "\"") ∷ []) Fresh rest mode others makes
     ∙ ap (λ (l : List ℕ). scanned mode (Directive l ∷ others)) (append_assoc (codes "include \"") name (codes "\"")))
 
 -- ---- helpers
 
-helper_names : AreNames helper_scope
-helper_names = record { identifiers = (refl, (refl, tt)); distinct = (refl, (refl, tt)); fields = tt; fields_distinct = tt }
-
-bodies_laid : (helper : Helper) → AreLaid (body_of helper)
-bodies_laid Add = search
-bodies_laid Subtract = search
-bodies_laid Multiply = search
-bodies_laid Quotient = search
-bodies_laid Remainder = search
-
-first_there : 0 < 2
-first_there = omega arith
-
-second_there : 1 < 2
-second_there = omega arith
-
-small_zero : 0 < 2 ^ 15
-small_zero = omega arith
-
-small_one : 1 < 2 ^ 15
-small_one = omega arith
-
-bodies_right : (helper : Helper) → AreStatements helper_scope (body_of helper)
-bodies_right Add = search (first_there, second_there, small_zero, small_one)
-bodies_right Subtract = search (first_there, second_there, small_zero, small_one)
-bodies_right Multiply = search (first_there, second_there, small_zero, small_one)
-bodies_right Quotient = search (first_there, second_there, small_zero, small_one)
-bodies_right Remainder = search (first_there, second_there, small_zero)
-
 from_fresh : List ℕ → Option Scanned
 from_fresh l = scan l (record { mode = Fresh; tokens = [] })
 
-helper_then : (helper : Helper) → Then (helper_text helper) (helper_tokens helper)
-helper_then helper rest mode others makes =
-    let body = statements_tokens helper_scope (body_of helper) in
+helper_then : (definition : HelperDefinition) → AreLaid definition.body → AreStatements helper_scope definition.body → Then (helper_text definition) (helper_tokens definition)
+helper_then definition laid right rest mode others makes =
+    let helper = definition.helper in
+    let body = statements_tokens helper_scope definition.body in
     let close = then_makes (Sign (codes "}") ∷ []) Fresh rest mode others makes in
-    let lines = lines_whole helper_scope helper_names 3 (body_of helper) (bodies_laid helper) (bodies_right helper) (codes "}\n" ++ rest) mode (Sign (codes "}") ∷ others) close in
-    let tail : List ℕ = lines_text blanks helper_scope (body_of helper) ++ (codes "}\n" ++ rest) in
+    let lines = lines_whole helper_scope helper_names 3 definition.body laid right (codes "}\n" ++ rest) mode (Sign (codes "}") ∷ others) close in
+    let tail : List ℕ = lines_text blanks helper_scope definition.body ++ (codes "}\n" ++ rest) in
     let signature : List Token = Word (codes "int64_t") ∷ Word (codes "a") ∷ Sign (codes ",") ∷ Word (codes "int64_t") ∷ Word (codes "b") ∷ Sign (codes ",") ∷ Word (codes "int64_t") ∷ Sign (codes "*")
     ∷ Word (codes "result") ∷ Sign (codes ")") ∷ Sign (codes "{") ∷ [] in
     let parameters = then_makes signature Fresh tail mode (body ++ Sign (codes "}") ∷ others) lines in
@@ -146,17 +138,20 @@ helper_then helper rest mode others makes =
     (Word (helper_name helper) ∷ Sign (codes "(") ∷ (signature ++ (body ++ Sign (codes "}") ∷ others))) named
     ∙ ap (λ (l : List Token). scanned mode (Word (codes "static") ∷ Word (codes "int") ∷ Word (helper_name helper) ∷ Sign (codes "(") ∷ (signature ++ l))) (sym (append_assoc body (Sign (codes "}") ∷ []) others))
 
-pub helpers_then : (helpers : List Helper) → Then (helpers_text helpers) (helpers_tokens helpers)
-helpers_then [] rest mode others makes = makes
-helpers_then (helper ∷ helpers) rest mode others makes =
-    helper_then helper (helpers_text helpers rest) mode (helpers_tokens helpers ++ others) (helpers_then helpers rest mode others makes)
-    ∙ ap (scanned mode) (sym (append_assoc (helper_tokens helper) (helpers_tokens helpers) others))
+pub helpers_then : (definitions : List HelperDefinition) → AreHelpersLaid definitions → AreHelpers definitions → Then (helpers_text definitions) (helpers_tokens definitions)
+helpers_then [] laid are rest mode others makes = makes
+helpers_then (definition ∷ later) laid are rest mode others makes =
+    helper_then definition laid.0 are.1 (helpers_text later rest) mode (helpers_tokens later ++ others) (helpers_then later laid.1 are.3 rest mode others makes)
+    ∙ ap (scanned mode) (sym (append_assoc (helper_tokens definition) (helpers_tokens later) others))
 
 -- ---- names that begin with the prefix
 
 all_appended : (a b : List ℕ) → list_all is_word_byte a ≡ true → list_all is_word_byte b ≡ true → list_all is_word_byte (a ++ b) ≡ true
 all_appended [] b all other = other
 all_appended (byte ∷ a) b all other = let parts = and_parts (is_word_byte byte) (list_all is_word_byte a) all in rw parts.0 (all_appended a b parts.1 other)
+
+prefix_word : (prefix : Name) → is_prefix prefix ≡ true → begins_with_letter prefix ≡ true
+prefix_word prefix is = (and_parts (begins_with_letter prefix) (nat_le (length prefix) 46 && not (is_of_library prefix)) is).0
 
 prefixed_word : (prefix text : List ℕ) → begins_with_letter prefix ≡ true → list_all is_word_byte text ≡ true → IsWordText (prefix ++ (codes "_" ++ text))
 prefixed_word [] text is all = absurd (let f : false ≡ true = is in cc f)
@@ -332,7 +327,7 @@ module _ (header : Header) (prefix : begins_with_letter header.prefix ≡ true) 
       let tail_tokens : List Token = variables_tokens scope variables ++ (statements_tokens scope step ++ Sign (codes "}") ∷ []) in
       let tail : List ℕ = variables_text scope variables (body ++ codes "}\n") in
       let statements = lines (codes "}\n") Fresh (Sign (codes "}") ∷ []) refl in
-      let declarations = variables_then scope names.fields variables (free_first (map (λ declared. declared.name) variables) (header.inputs ++ header.outputs) names.identifiers) are
+      let declarations = variables_then scope names.fields variables (free_first (map (λ declared. declared.name) variables) (scope.inputs ++ scope.outputs) names.identifiers) are
       (body ++ codes "}\n") Fresh (statements_tokens scope step ++ Sign (codes "}") ∷ []) statements in
       let begun = then_makes (Sign (codes "*") ∷ Word (codes "context") ∷ Sign (codes ")") ∷ Sign (codes "{") ∷ []) Fresh tail Fresh tail_tokens declarations in
       let context = prefixed_piece header prefix (codes "context") refl 32 [] blank (codes "*context)\n{\n" ++ tail) Fresh (Sign (codes "*") ∷ Word (codes "context") ∷ Sign (codes ")") ∷ Sign (codes "{") ∷ tail_tokens) begun in
@@ -347,18 +342,19 @@ module _ (header : Header) (prefix : begins_with_letter header.prefix ≡ true) 
       (prefixed header (codes "step") ∷ Sign (codes "(") ∷ prefixed header (codes "state") ∷ Sign (codes "*") ∷ Word (codes "state") ∷ Sign (codes ",") ∷ prefixed header (codes "context") ∷ Sign (codes "*")
       ∷ Word (codes "context") ∷ Sign (codes ")") ∷ Sign (codes "{") ∷ tail_tokens) named
 
-pub file_has : (head : List (List ℕ)) (include : Name) (header : Header) (unit : TranslationUnit) (body : List ℕ) → IsFile head include header unit → IsUnit header unit
+pub file_has : (head : List (List ℕ)) (include : Name) (header : Header) (unit : TranslationUnit) (body : List ℕ) → IsFile head include unit → IsUnit header unit
     → IsBody (scope_of header unit.variables) body (statements_tokens (scope_of header unit.variables) unit.step) → HasTokens (file_text head include header unit body) (unit_tokens include header unit)
 file_has head include header unit body file is lines =
     let scope = scope_of header unit.variables in
     let variables : AreVariables (length scope.fields) unit.variables = subst (λ (n : ℕ). AreVariables n unit.variables) (sym (length-map header.fields (λ (field : FieldOfState). field.name))) is.variables in
-    let step = step_has header file.prefix unit.variables unit.step body is.names variables lines in
-    let init = init_then header file.prefix unit.firsts is.names.fields is.bits (step_text header unit.variables body) Fresh (step_tokens header unit.variables unit.step) step in
-    let ends = ends_then header file.prefix unit.ends is.rows file.printable is.few_rows (init_text header unit.firsts (step_text header unit.variables body)) Fresh
+    let prefix = prefix_word header.prefix is.names.prefix in
+    let step = step_has header prefix unit.variables unit.step body is.names.names variables lines in
+    let init = init_then header prefix unit.firsts is.names.names.fields is.bits (step_text header unit.variables body) Fresh (step_tokens header unit.variables unit.step) step in
+    let ends = ends_then header prefix unit.ends is.rows file.printable is.few_rows (init_text header unit.firsts (step_text header unit.variables body)) Fresh
     (init_tokens header unit.firsts ++ step_tokens header unit.variables unit.step) init in
-    let helpers = helpers_then unit.helpers (ends_text header unit.ends (init_text header unit.firsts (step_text header unit.variables body))) Fresh
+    let helpers = helpers_then unit.helpers file.helpers is.helpers (ends_text header unit.ends (init_text header unit.firsts (step_text header unit.variables body))) Fresh
     (ends_tokens header unit.ends ++ (init_tokens header unit.firsts ++ step_tokens header unit.variables unit.step)) ends in
-    let included = include_then include file.include_bytes (helpers_text unit.helpers (ends_text header unit.ends (init_text header unit.firsts (step_text header unit.variables body)))) Fresh
+    let included = include_then include file.include_name (helpers_text unit.helpers (ends_text header unit.ends (init_text header unit.firsts (step_text header unit.variables body)))) Fresh
     (helpers_tokens unit.helpers ++ (ends_tokens header unit.ends ++ (init_tokens header unit.firsts ++ step_tokens header unit.variables unit.step))) helpers in
     comment_then head file.comments (include_text include (helpers_text unit.helpers (ends_text header unit.ends (init_text header unit.firsts (step_text header unit.variables body))))) Fresh
     (unit_tokens include header unit) included

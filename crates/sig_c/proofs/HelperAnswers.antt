@@ -4,8 +4,8 @@ use Rattle.std.specs.Prelude.{negsuc, zero, suc, ◌+ℤ◌, ◌-ℤ◌, ◌*ℤ
 use Rattle.std.proofs.lemmas.Int.{ints}
 use Rattle.sig_base.specs.Traces.{has_64_bits}
 use Rattle.sig_c.specs.SmallC.{Result, Plus, Minus, Times, Divide, Expression, Binary, Helper, Add, Subtract, Multiply, Quotient, Remainder}
-use Rattle.sig_c.specs.Meaning.{Memory, with_value, truth, is_zero, fitted, int_same, value, run}
-use Rattle.sig_c.specs.Helpers.{a, b, sum_overflows, difference_overflows, product_overflows, quotient_overflows, body_of, called, no_call, all_wide, tested_first, entered_with}
+use Rattle.sig_c.specs.Meaning.{Memory, with_value, truth, is_zero, fitted, int_same, value, answering, run}
+use Rattle.sig_c.specs.Helpers.{a, b, sum_overflows, difference_overflows, product_overflows, quotient_overflows, body_of, called, no_functions, all_wide, tested_first, entered_with}
 use Rattle.sig_c.proofs.Arithmetic.{sum_told, difference_told}
 use Rattle.sig_c.proofs.Products.{product_told, divided_is}
 use Rattle.sig_c.proofs.Quotients.{quotient_bits, quotient_told, remainder_bits, remainder_by_one}
@@ -21,10 +21,10 @@ is_same : (v w : ℤ) → int_same v w ≡ true → v ≡ w
 is_same v w e = grind (arith, ints, e)
 
 tested_answers : (test e : Expression) (m : Memory) (r : ℤ) → value all_wide test m ≡ Some (truth (not (has_64_bits r))) → (has_64_bits r ≡ true → value all_wide e m ≡ Some r)
-    → m.values Result ≡ None → Answers (run no_call all_wide (tested_first test e) m) r
+    → m.values Result ≡ None → Answers (answering (run no_functions all_wide (tested_first test e) m)) r
 tested_answers test e m r told given fresh = by (has_64_bits r) refl
   where
-    by : (small : Bool) → has_64_bits r ≡ small → Answers (run no_call all_wide (tested_first test e) m) r
+    by : (small : Bool) → has_64_bits r ≡ small → Answers (answering (run no_functions all_wide (tested_first test e) m)) r
     by true is = inl (is, record { after = with_value Result r m; returns = rw told (rw is (rw (given is) (rw is refl))); writes = refl })
     by false is = inr (is, record { after = m; returns = rw told (rw is refl); leaves = fresh })
 
@@ -32,10 +32,10 @@ fitted_is : (r : ℤ) → has_64_bits r ≡ true → fitted r ≡ Some r
 fitted_is r is = rw is refl
 
 -- if (b == -1) { *result = 0; return 0; } *result = a % b; return 0;
-remainder_answers : (v w : ℤ) → has_64_bits v ≡ true → has_64_bits w ≡ true → w ≢ pos 0 → Answers (run no_call all_wide (body_of Remainder) (entered_with v w)) (remainder v w)
+remainder_answers : (v w : ℤ) → has_64_bits v ≡ true → has_64_bits w ≡ true → w ≢ pos 0 → Answers (answering (run no_functions all_wide (body_of Remainder) (entered_with v w))) (remainder v w)
 remainder_answers v w small_v small_w may = by (int_same w (negsuc 0)) refl
   where
-    by : (b : Bool) → int_same w (negsuc 0) ≡ b → Answers (run no_call all_wide (body_of Remainder) (entered_with v w)) (remainder v w)
+    by : (b : Bool) → int_same w (negsuc 0) ≡ b → Answers (answering (run no_functions all_wide (body_of Remainder) (entered_with v w))) (remainder v w)
     by true is = inl (
       remainder_bits v w small_w may,
       record {
@@ -53,7 +53,7 @@ remainder_answers v w small_v small_w may = by (int_same w (negsuc 0)) refl
       },
     )
 
-pub helper_answers : (helper : Helper) (v w : ℤ) → has_64_bits v ≡ true → has_64_bits w ≡ true → MayBeGiven helper w → Answers (called helper v w) (result_of helper v w)
+pub helper_answers : (helper : Helper) (v w : ℤ) → has_64_bits v ≡ true → has_64_bits w ≡ true → MayBeGiven helper w → Answers (called (body_of helper) v w) (result_of helper v w)
 unfolding called
 helper_answers Add v w small_v small_w may = tested_answers sum_overflows (Binary Plus a b) (entered_with v w) (v +ℤ w) (sum_told v w small_v small_w) (fitted_is (v +ℤ w)) refl
 helper_answers Subtract v w small_v small_w may = tested_answers difference_overflows (Binary Minus a b) (entered_with v w) (v -ℤ w) (difference_told v w small_v small_w) (fitted_is (v -ℤ w)) refl

@@ -46,8 +46,8 @@ module _ (before : List Token) where
   one_byte (Escaped bytes) tokens byte = either before (list_any (nat_eq byte) (34 ∷ 92 ∷ 63 ∷ [])) _ _ _ _ refl refl
   one_byte (InComment last) tokens byte =
       either before (nat_eq last 42 && nat_eq byte 47) _ _ _ _ refl (either before ((is_printable byte || nat_eq byte 10) && not (is_refused last byte)) _ _ _ _ refl refl)
-  one_byte (InDirective bytes) tokens byte =
-      either before (nat_eq byte 10) _ _ _ _ (added Fresh tokens (Directive bytes)) (either before (is_printable byte && not (is_refused 32 byte)) _ _ _ _ refl refl)
+  one_byte (InDirective last bytes) tokens byte =
+      either before (nat_eq byte 10) _ _ _ _ (added Fresh tokens (Directive bytes)) (either before (is_printable byte && not (is_refused last byte)) _ _ _ _ refl refl)
 
   next : (bytes : List ℕ) (s : Option Scanned) → ((t : Scanned) → scan bytes (behind_these before t) ≡ prepended before (scan bytes t))
       → scan_next (scan bytes) (prepended before s) ≡ prepended before (scan_next (scan bytes) s)

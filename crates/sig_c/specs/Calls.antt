@@ -1,8 +1,7 @@
 -- Calls of a step, one for each instant: what they answer, and what is in the state behind them.
-use Rattle.std.specs.Prelude.{◌∷◌, ℕ, zero, suc, ℤ, pos, List, [], Bool, true, false, slice_get, Option, None, Some, if◌then◌else◌}
-use Rattle.std.specs.List.{list_any}
-use Rattle.sig_c.specs.SmallC.{Place, Variable, Field, Result, Expression, Number, Get, Helper, Add, Subtract, Multiply, Quotient, Remainder, Set, Statements, more, Width, Truth, Wide, FieldOfState, Header, Declared, TranslationUnit}
-use Rattle.sig_c.specs.Meaning.{Memory, Outcome, GoesOn, Returned, Undefined, HelperCalls, run}
+use Rattle.std.specs.Prelude.{◌≡◌, ◌∷◌, ℕ, zero, suc, ℤ, pos, List, [], Bool, true, false, slice_get, Option, None, Some, if◌then◌else◌}
+use Rattle.sig_c.specs.SmallC.{Place, Variable, Field, Result, Expression, Number, Get, Helper, Add, Subtract, Multiply, Quotient, Remainder, Set, Statements, more, Width, Truth, Wide, FieldOfState, Header, HelperDefinition, Declared, TranslationUnit}
+use Rattle.sig_c.specs.Meaning.{Memory, Outcome, GoesOn, Returned, Undefined, Functions, answering, may_hold, run}
 use Rattle.sig_c.specs.Helpers.{called}
 
 -- ---- one call
@@ -29,9 +28,18 @@ is_helper Quotient Quotient = true
 is_helper Remainder Remainder = true
 is_helper one other = false
 
--- the helpers that the file has may be called
-abbrev pub calls_in : TranslationUnit → HelperCalls
-calls_in unit helper v w = if list_any (is_helper helper) unit.helpers then called helper v w else Undefined
+-- the statements of a helper that the file has
+abbrev pub body_in : Helper → List HelperDefinition → Option Statements
+body_in helper [] = None
+body_in helper (definition ∷ others) = if is_helper helper definition.helper then Some definition.body else body_in helper others
+
+abbrev pub call_of : Option Statements → ℤ → ℤ → Outcome
+call_of None v w = Undefined
+call_of (Some body) v w = called body v w
+
+-- the helpers that the file has may be called, and the functions that the header declares
+abbrev pub functions_in : Header → TranslationUnit → Functions
+functions_in header unit = record { helper = λ helper. call_of (body_in helper unit.helpers); inputs = header.inputs; outputs = header.outputs }
 
 abbrev pub fields_alone : Memory → Place → Option ℤ
 fields_alone m (Field n) = m.values (Field n)
@@ -51,7 +59,11 @@ declare x [] after = after
 declare x (declared ∷ others) after = more (Set (Variable x) (first_value declared.first)) (declare (suc x) others after)
 
 unfoldable pub step_of : Header → TranslationUnit → Memory → Outcome
-step_of header unit m = run (calls_in unit) (widths_in header unit) (declare 0 unit.variables unit.step) (entered m)
+step_of header unit m = answering (run (functions_in header unit) (widths_in header unit) (declare 0 unit.variables unit.step) (entered m))
+
+-- what the fields of the header have, their types hold
+abbrev pub AreFit : Header → Memory → Type 0
+AreFit header m = (n : ℕ) (v : ℤ) → m.values (Field n) ≡ Some v → may_hold (width_of_field (slice_get header.fields n)) v ≡ true
 
 -- ---- all calls
 
@@ -80,11 +92,17 @@ calls (suc limit) step m = go_on (step m) (calls limit step)
 
 -- ---- before the first call
 
+-- what a field is given, where its type holds it
+abbrev pub first_held : Option FieldOfState → Option ℤ → Option ℤ
+first_held None v = None
+first_held (Some field) None = None
+first_held (Some field) (Some v) = if may_hold field.width v then Some v else None
+
 -- what P_init gives the fields
-abbrev pub first_values : List ℤ → Place → Option ℤ
-first_values firsts (Field n) = slice_get firsts n
-first_values firsts other = None
+abbrev pub first_values : List FieldOfState → List ℤ → Place → Option ℤ
+first_values fields firsts (Field n) = first_held (slice_get fields n) (slice_get firsts n)
+first_values fields firsts other = None
 
 -- the state behind P_init, where the functions of inputs will give these flows
-abbrev pub begun : TranslationUnit → List (List ℤ) → Memory
-begun unit flows = record { values = first_values unit.firsts; flows = flows; given = [] }
+abbrev pub begun : Header → TranslationUnit → List (List ℤ) → Memory
+begun header unit flows = record { values = first_values header.fields unit.firsts; flows = flows; given = [] }

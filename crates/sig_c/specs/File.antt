@@ -1,12 +1,11 @@
 -- How a whole file is laid out. Each text is followed by the rest of the file.
-use Rattle.std.specs.Prelude.{◌∷◌, ◌++◌, ◌≡◌, ◌&&◌, ◌||◌, ℕ, ℤ, List, [], Bool, true, not, length, nat_eq, Option, None, Some, if◌then◌else◌, codes, decimal, replicate, ⊤}
+use Rattle.std.specs.Prelude.{◌∷◌, ◌++◌, ◌≡◌, ◌&&◌, ℕ, ℤ, List, [], Bool, true, not, length, nat_eq, Option, None, Some, if◌then◌else◌, codes, decimal, replicate, ⊤}
 use Rattle.std.specs.List.{list_any, list_all}
-use Rattle.sig_c.specs.SmallC.{Name, Helper, FieldOfState, Header, Declared, EndRow, TranslationUnit}
-use Rattle.sig_c.specs.Helpers.{body_of}
-use Rattle.sig_c.specs.Tokens.{is_printable, is_refused, is_word_byte}
+use Rattle.sig_c.specs.SmallC.{Name, HelperDefinition, FieldOfState, Header, Declared, EndRow, TranslationUnit}
+use Rattle.sig_c.specs.Tokens.{is_printable, is_refused}
 use Rattle.sig_c.specs.Written.{Scope, name_at, helper_name, helper_scope, cause_text, width_text, scope_of}
-use Rattle.sig_c.specs.Names.{begins_with_letter}
-use Rattle.sig_c.specs.Layout.{number_text, lines_text}
+use Rattle.sig_c.specs.Names.{is_file_name}
+use Rattle.sig_c.specs.Layout.{AreLaid, number_text, lines_text}
 
 -- ---- comments
 
@@ -41,13 +40,13 @@ include_text name rest = codes "#include \"" ++ (name ++ (codes "\"\n" ++ rest))
 abbrev pub blanks : List ℕ
 blanks = replicate 4 32
 
-abbrev pub helper_text : Helper → List ℕ → List ℕ
-helper_text helper rest =
-    codes "\nstatic int " ++ (helper_name helper ++ (codes "(int64_t a, int64_t b, int64_t *result)\n{\n" ++ (lines_text blanks helper_scope (body_of helper) ++ (codes "}\n" ++ rest))))
+abbrev pub helper_text : HelperDefinition → List ℕ → List ℕ
+helper_text definition rest =
+    codes "\nstatic int " ++ (helper_name definition.helper ++ (codes "(int64_t a, int64_t b, int64_t *result)\n{\n" ++ (lines_text blanks helper_scope definition.body ++ (codes "}\n" ++ rest))))
 
-abbrev pub helpers_text : List Helper → List ℕ → List ℕ
+abbrev pub helpers_text : List HelperDefinition → List ℕ → List ℕ
 helpers_text [] rest = rest
-helpers_text (helper ∷ helpers) rest = helper_text helper (helpers_text helpers rest)
+helpers_text (definition ∷ others) rest = helper_text definition (helpers_text others rest)
 
 -- ---- the table of ends
 
@@ -120,17 +119,18 @@ file_text head include header unit body =
 
 -- ---- what may be laid out
 
--- letters, digits, `_` and `.` make the name of a file
-abbrev pub is_file_byte : ℕ → Bool
-is_file_byte byte = is_word_byte byte || nat_eq byte 46
-
 -- the names in the table of ends are printable
 abbrev pub ArePrintable : List EndRow → Type 0
 ArePrintable [] = ⊤
 ArePrintable (row ∷ rows) = (list_all is_printable row.name ≡ true) × ArePrintable rows
 
-pub record IsFile (head : List (List ℕ)) (include : Name) (header : Header) (unit : TranslationUnit) : Type 0 where
+-- the statements of the helpers are laid out so that their bytes make their tokens
+abbrev pub AreHelpersLaid : List HelperDefinition → Type 0
+AreHelpersLaid [] = ⊤
+AreHelpersLaid (definition ∷ others) = AreLaid definition.body × AreHelpersLaid others
+
+pub record IsFile (head : List (List ℕ)) (include : Name) (unit : TranslationUnit) : Type 0 where
   pub comments : AreComments head
-  pub include_bytes : list_all is_file_byte include ≡ true
-  pub prefix : begins_with_letter header.prefix ≡ true
+  pub include_name : is_file_name include ≡ true
+  pub helpers : AreHelpersLaid unit.helpers
   pub printable : ArePrintable unit.ends

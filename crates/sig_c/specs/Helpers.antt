@@ -1,8 +1,8 @@
 -- The helpers: functions of the file, static int add(int64_t a, int64_t b, int64_t *result) and the like. They answer 1 where the
 -- result has more than 64 bits, and else write it and answer 0.
 use Rattle.std.specs.Prelude.{◌∷◌, ◌^◌, ◌-◌, ℤ, pos, negsuc, [], slice_get, Option, None}
-use Rattle.sig_c.specs.SmallC.{Place, Variable, Result, Plus, Minus, Times, Divide, Modulo, Less, Greater, Equal, NotEqual, And, Expression, Number, Get, Binary, Choose, Helper, Add, Subtract, Multiply, Quotient, Remainder, Set, When, Return, Statements, none, more, Width, Wide}
-use Rattle.sig_c.specs.Meaning.{Memory, Undefined, HelperCalls, run}
+use Rattle.sig_c.specs.SmallC.{Place, Variable, Result, Plus, Minus, Times, Divide, Modulo, Less, Greater, Equal, NotEqual, And, Expression, Number, Get, Binary, Choose, Helper, Add, Subtract, Multiply, Quotient, Remainder, HelperDefinition, Set, When, Return, Statements, none, more, Width, Wide}
+use Rattle.sig_c.specs.Meaning.{Memory, Outcome, Undefined, Functions, answering, run}
 
 -- INT64_MIN and INT64_MAX (7.20.2.1)
 abbrev pub least : ℤ
@@ -54,11 +54,15 @@ body_of Remainder =
     more (When (Binary Equal b (Number (negsuc 0))) (more (Set Result (Number (pos 0))) (more (Return 0) none)))
     (more (Set Result (Binary Modulo a b)) (more (Return 0) none))
 
--- ---- what a call of one does
+-- the definition of one
+abbrev pub definition_of : Helper → HelperDefinition
+definition_of helper = record { helper = helper; body = body_of helper }
 
--- a helper calls none
-abbrev pub no_call : HelperCalls
-no_call helper v w = Undefined
+-- ---- what a call of a function with such a body does
+
+-- it calls no other
+abbrev pub no_functions : Functions
+no_functions = record { helper = λ helper v w. Undefined; inputs = []; outputs = [] }
 
 abbrev pub parameters : (v w : ℤ) → Place → Option ℤ
 parameters v w (Variable x) = slice_get (v ∷ w ∷ []) x
@@ -71,5 +75,5 @@ entered_with v w = record { values = parameters v w; flows = []; given = [] }
 abbrev pub all_wide : Place → Width
 all_wide x = Wide
 
-unfoldable pub called : HelperCalls
-called helper v w = run no_call all_wide (body_of helper) (entered_with v w)
+unfoldable pub called : Statements → ℤ → ℤ → Outcome
+called body v w = answering (run no_functions all_wide body (entered_with v w))

@@ -1,5 +1,6 @@
 pub mod Answers
 pub mod Calls
+pub mod Example
 pub mod File
 pub mod Helpers
 pub mod Layout

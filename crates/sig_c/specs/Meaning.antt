@@ -1,10 +1,10 @@
 -- What statements of small C do, as C11 says it; numbers in brackets are its clauses. Where C11 leaves open what happens, or makes it
 -- depend on the machine, the outcome is `Undefined`. An `int` has 16 bits here, the least that C11 allows (5.2.4.2.1), and takes
 -- truths alone; `int64_t` has 64 (7.20.1.1).
-use Rattle.std.specs.Prelude.{◌∷◌, ◌++◌, ◌^◌, ◌&&◌, ◌||◌, ◌+ℤ◌, ◌-ℤ◌, ◌*ℤ◌, ◌-◌, ℕ, zero, suc, ℤ, pos, negsuc, Bool, true, false, not, List, [], nat_eq, nat_lt, slice_index_or, slice_set, Option, None, Some, if◌then◌else◌, int_lt, int_le}
+use Rattle.std.specs.Prelude.{◌∷◌, ◌++◌, ◌^◌, ◌&&◌, ◌||◌, ◌+ℤ◌, ◌-ℤ◌, ◌*ℤ◌, ◌-◌, ℕ, zero, suc, ℤ, pos, negsuc, Bool, true, false, not, List, [], nat_eq, nat_lt, slice_get, slice_index_or, slice_set, Option, None, Some, if◌then◌else◌, int_lt, int_le}
 use Rattle.sig_base.specs.Traces.{has_64_bits}
 use Rattle.sig_base.specs.Functions.{quotient, remainder}
-use Rattle.sig_c.specs.SmallC.{Place, Variable, Field, Result, Operator, Plus, Minus, Times, Divide, Modulo, Less, LessEqual, Greater, GreaterEqual, Equal, NotEqual, And, Or, Expression, Number, Get, Not, Binary, Choose, Helper, Statement, Set, When, Check, Ask, Give, Ignore, Return, Statements, none, more, Width, Truth, Wide}
+use Rattle.sig_c.specs.SmallC.{Place, Variable, Field, Result, Operator, Plus, Minus, Times, Divide, Modulo, Less, LessEqual, Greater, GreaterEqual, Equal, NotEqual, And, Or, Expression, Number, Get, Not, Binary, Choose, Helper, Statement, Set, When, Check, Ask, Give, Ignore, Return, Statements, none, more, Width, Truth, Wide, Prototype}
 
 -- ---- memory
 
@@ -165,6 +165,24 @@ may_hold Truth v = is_truth v
 abbrev pub set : (Place → Width) → Place → Memory → ℤ → Outcome
 set widths x m v = if may_hold (widths x) v then GoesOn (with_value x v m) else Undefined
 
+-- ---- functions of the program's own
+
+abbrev pub is_width : Width → Width → Bool
+is_width Wide Wide = true
+is_width Truth Truth = true
+is_width one other = false
+
+-- what is passed beside the context is the address of a variable of the type that the prototype has, or nothing where it has none
+-- (6.5.2.2p2, 6.5.16.1p1)
+abbrev pub takes_address : (Place → Width) → Option Width → (variable : Option ℕ) → Bool
+takes_address widths None None = true
+takes_address widths (Some width) (Some x) = is_width width (widths (Variable x))
+takes_address widths wanted variable = false
+
+abbrev pub may_ask : (Place → Width) → Option Prototype → (variable : Option ℕ) → Bool
+may_ask widths None variable = false
+may_ask widths (Some prototype) variable = takes_address widths prototype.takes variable
+
 -- a function of an input answers 0 where it has no further value, and else writes the next one
 abbrev pub asked : (Place → Width) → (input : ℕ) → (variable : Option ℕ) → (code : ℕ) → Memory → List ℤ → Outcome
 asked widths input variable code m [] = Returned code m
@@ -174,6 +192,22 @@ asked widths input (Some x) code m (v ∷ rest) = set widths (Variable x) (recor
 -- a function of an output is given a value, that of an event none, which counts as 1
 abbrev pub given_to : (output : ℕ) → Memory → ℤ → Outcome
 given_to output m v = GoesOn (record m { given = m.given ++ (output, v) ∷ [] })
+
+-- a value is passed as a variable of the parameter's type would take it (6.5.2.2p7)
+abbrev pub given_as : Width → (output : ℕ) → Memory → ℤ → Outcome
+given_as width output m v = if may_hold width v then given_to output m v else Undefined
+
+-- a value is passed where the prototype has a parameter for it
+abbrev pub gives : (Place → Width) → (output : ℕ) → Memory → Option Width → Option Expression → Outcome
+gives widths output m None None = given_to output m (pos 1)
+gives widths output m (Some width) (Some e) = with_result (value widths e m) (given_as width output m)
+gives widths output m wanted e = Undefined
+
+abbrev pub run_gift : (Place → Width) → (output : ℕ) → Memory → Option Prototype → Option Expression → Outcome
+run_gift widths output m None e = Undefined
+run_gift widths output m (Some prototype) e = gives widths output m prototype.takes e
+
+-- ---- helpers
 
 -- what a variable has whose address was given to a helper: what the helper wrote to *result, if it did
 abbrev pub received : (Place → Width) → ℕ → Memory → Option ℤ → (Memory → Outcome) → Outcome
@@ -203,17 +237,33 @@ run_check call widths helper x code m None w = Undefined
 run_check call widths helper x code m (Some v) None = Undefined
 run_check call widths helper x code m (Some v) (Some w) = if is_wide (widths (Variable x)) then helped widths x code m (call helper v w) else Undefined
 
+-- ---- statements in order
+
+-- what statements may call: the helpers of the file, and the functions that the header declares
+pub record Functions : Type 0 where
+  pub helper : HelperCalls
+  pub inputs : List Prototype
+  pub outputs : List Prototype
+
 abbrev mutual
-  pub run_one : HelperCalls → (Place → Width) → Statement → Memory → Outcome
+  pub run_one : Functions → (Place → Width) → Statement → Memory → Outcome
   run_one call widths (Set x e) m = with_result (value widths e m) (set widths x m)
   run_one call widths (When e statements) m = chosen Undefined (value widths e m) (run call widths statements m) (GoesOn m)
-  run_one call widths (Check helper a b x code) m = run_check call widths helper x code m (value widths a m) (value widths b m)
-  run_one call widths (Ask input x code) m = asked widths input x code m (slice_index_or m.flows input [])
-  run_one call widths (Give output (Some e)) m = with_result (value widths e m) (given_to output m)
-  run_one call widths (Give output None) m = given_to output m (pos 1)
+  run_one call widths (Check helper a b x code) m = run_check call.helper widths helper x code m (value widths a m) (value widths b m)
+  run_one call widths (Ask input x code) m =
+      if may_ask widths (slice_get call.inputs input) x then asked widths input x code m (slice_index_or m.flows input []) else Undefined
+  run_one call widths (Give output e) m = run_gift widths output m (slice_get call.outputs output) e
   run_one call widths (Ignore x) m = GoesOn m
   run_one call widths (Return code) m = Returned code m
 
-  pub run : HelperCalls → (Place → Width) → Statements → Memory → Outcome
+  pub run : Functions → (Place → Width) → Statements → Memory → Outcome
   run call widths none m = GoesOn m
   run call widths (more statement rest) m = and_then (run_one call widths statement m) (run call widths rest)
+
+-- ---- a whole function
+
+-- it answers an `int` (6.8.6.4p3)
+abbrev pub answering : Outcome → Outcome
+answering (GoesOn m) = GoesOn m
+answering (Returned code m) = if is_int (pos code) then Returned code m else Undefined
+answering Undefined = Undefined

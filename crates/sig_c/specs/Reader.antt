@@ -1,11 +1,12 @@
 -- How the tokens of a file are read: by what stands first, one token or two ahead. A number that bounds the depth counts down, from
--- as many tokens as there are.
+-- as many tokens as there are. Each word of C is spelled here, apart from the text that is written (`Written`), so that a word which
+-- is spelled in two ways is refused by the laws.
 use Rattle.std.specs.Prelude.{◌∷◌, ◌++◌, ◌-◌, ◌^◌, ◌||◌, ℕ, zero, suc, ℤ, pos, negsuc, List, [], Bool, true, false, length, nat_lt, Option, None, Some, if◌then◌else◌, codes, decimal}
 use Rattle.std.specs.Str.{bytes_eq}
 use Rattle.std.specs.Str.Parse.{digits_value}
-use Rattle.sig_c.specs.SmallC.{Name, Place, Variable, Field, Result, Operator, Plus, Minus, Times, Divide, Modulo, Less, LessEqual, Greater, GreaterEqual, Equal, NotEqual, And, Or, Expression, Number, Get, Not, Binary, Choose, Helper, Add, Subtract, Multiply, Quotient, Remainder, TheVariable, TheState, TheContext, Statement, Set, When, Check, Ask, Give, Ignore, Return, Statements, none, more, Width, Truth, Wide, FieldOfState, Header, Declared, EndCause, Done, Exhausted, Overflow, DivisionByZero, EndRow, TranslationUnit}
+use Rattle.sig_c.specs.SmallC.{Name, Place, Variable, Field, Result, Operator, Plus, Minus, Times, Divide, Modulo, Less, LessEqual, Greater, GreaterEqual, Equal, NotEqual, And, Or, Expression, Number, Get, Not, Binary, Choose, Helper, Add, Subtract, Multiply, Quotient, Remainder, TheVariable, TheState, TheContext, Statement, Set, When, Check, Ask, Give, Ignore, Return, Statements, none, more, Width, Truth, Wide, FieldOfState, Header, HelperDefinition, Declared, EndCause, Done, Exhausted, Overflow, DivisionByZero, EndRow, TranslationUnit}
 use Rattle.sig_c.specs.Tokens.{Token, Word, Sign, Quoted, Directive, is_digit}
-use Rattle.sig_c.specs.Written.{Scope, helper_tokens, scope_of, width_text, cause_text, prefixed}
+use Rattle.sig_c.specs.Written.{Scope, scope_of}
 
 -- ---- reading
 
@@ -268,32 +269,48 @@ read_statements scope (suc depth) tokens =
 
 -- ---- functions and tables
 
--- the helper whose text stands first
-abbrev pub helper_first : List Token → List Helper → Read Helper
-helper_first tokens [] = None
-helper_first tokens (helper ∷ helpers) = elim (past (helper_tokens helper) helper tokens) [ Some found ↦ Some found | None ↦ helper_first tokens helpers ]
+-- what the statements of a helper may name
+abbrev pub parameters : Scope
+parameters = record { in_helper = true; variables = codes "a" ∷ codes "b" ∷ []; fields = []; inputs = []; outputs = [] }
 
-abbrev pub all_helpers : List Helper
-all_helpers = Add ∷ Subtract ∷ Multiply ∷ Quotient ∷ Remainder ∷ []
+-- (int64_t a, int64_t b, int64_t *result) {
+abbrev pub helper_opening : List Token
+helper_opening =
+    Sign (codes "(") ∷ Word (codes "int64_t") ∷ Word (codes "a") ∷ Sign (codes ",") ∷ Word (codes "int64_t") ∷ Word (codes "b") ∷ Sign (codes ",") ∷ Word (codes "int64_t") ∷ Sign (codes "*")
+    ∷ Word (codes "result") ∷ Sign (codes ")") ∷ Sign (codes "{") ∷ []
+
+abbrev pub a_helper : List Token → Read Helper
+a_helper (Word text ∷ rest) = with_rest rest (helper_in text)
+a_helper other = None
+
+-- static int NAME(int64_t a, int64_t b, int64_t *result) { .. }
+abbrev pub read_helper : ℕ → List Token → Read HelperDefinition
+read_helper depth tokens =
+    behind (Word (codes "static") ∷ Word (codes "int") ∷ []) tokens (λ t1. onward (a_helper t1) (λ helper t2. behind helper_opening t2 (λ t3.
+    onward (read_statements parameters depth t3) (λ body t4. past (Sign (codes "}") ∷ []) (record { helper = helper; body = body }) t4))))
 
 abbrev pub is_word : List ℕ → List Token → Bool
 is_word text [] = false
 is_word text (token ∷ tokens) = is_token (Word text) token
 
--- functions that begin with `static`
-abbrev pub read_helpers : ℕ → List Token → Read (List Helper)
-read_helpers zero tokens = None
-read_helpers (suc count) tokens =
+-- functions that begin with `static`, this many at most
+abbrev pub read_helpers : (depth count : ℕ) → List Token → Read (List HelperDefinition)
+read_helpers depth zero tokens = None
+read_helpers depth (suc count) tokens =
     if is_word (codes "static") tokens
-    then onward (helper_first tokens all_helpers) (λ helper rest. onward (read_helpers count rest) (λ helpers end. Some (helper ∷ helpers, end)))
+    then onward (read_helper depth tokens) (λ definition rest. onward (read_helpers depth count rest) (λ others end. Some (definition ∷ others, end)))
     else Some ([], tokens)
+
+-- P_NAME
+abbrev pub named : Header → List ℕ → Token
+named header text = Word (header.prefix ++ (codes "_" ++ text))
 
 abbrev pub cause_of : Header → List ℕ → Option EndCause
 cause_of header text =
-    if is_token (prefixed header (cause_text Done)) (Word text) then Some Done
-    else (if is_token (prefixed header (cause_text Exhausted)) (Word text) then Some Exhausted
-    else (if is_token (prefixed header (cause_text Overflow)) (Word text) then Some Overflow
-    else (if is_token (prefixed header (cause_text DivisionByZero)) (Word text) then Some DivisionByZero
+    if is_token (named header (codes "DONE")) (Word text) then Some Done
+    else (if is_token (named header (codes "EXHAUSTED")) (Word text) then Some Exhausted
+    else (if is_token (named header (codes "OVERFLOW")) (Word text) then Some Overflow
+    else (if is_token (named header (codes "DIVISION_BY_ZERO")) (Word text) then Some DivisionByZero
     else None)))
 
 abbrev pub a_cause : Header → List Token → Read EndCause
@@ -320,7 +337,7 @@ read_rows header (suc (suc count)) tokens =
 -- const P_end P_ends[K] = { .. };
 abbrev pub read_ends : Header → List Token → Read (List EndRow)
 read_ends header tokens =
-    behind (Word (codes "const") ∷ prefixed header (codes "end") ∷ prefixed header (codes "ends") ∷ Sign (codes "[") ∷ []) tokens (λ t1. onward (a_number t1) (λ count t2.
+    behind (Word (codes "const") ∷ named header (codes "end") ∷ named header (codes "ends") ∷ Sign (codes "[") ∷ []) tokens (λ t1. onward (a_number t1) (λ count t2.
     behind (Sign (codes "]") ∷ Sign (codes "=") ∷ Sign (codes "{") ∷ []) t2 (λ t3. onward (read_rows header count t3) (past (Sign (codes "}") ∷ Sign (codes ";") ∷ [])))))
 
 abbrev pub value_of : Expression → Option ℤ
@@ -345,11 +362,11 @@ firsts_or_none scope (field ∷ fields) tokens = read_firsts scope (field ∷ fi
 -- void P_init(P_state *state) { .. }
 abbrev pub read_init : Header → List Token → Read (List ℤ)
 read_init header tokens =
-    behind (Word (codes "void") ∷ prefixed header (codes "init") ∷ Sign (codes "(") ∷ prefixed header (codes "state") ∷ Sign (codes "*") ∷ Word (codes "state") ∷ Sign (codes ")")
+    behind (Word (codes "void") ∷ named header (codes "init") ∷ Sign (codes "(") ∷ named header (codes "state") ∷ Sign (codes "*") ∷ Word (codes "state") ∷ Sign (codes ")")
     ∷ Sign (codes "{") ∷ []) tokens (λ t1. onward (firsts_or_none (scope_of header []) header.fields t1) (past (Sign (codes "}") ∷ [])))
 
 abbrev pub width_in : List Token → Option Width
-width_in tokens = if is_word (width_text Truth) tokens then Some Truth else (if is_word (width_text Wide) tokens then Some Wide else None)
+width_in tokens = if is_word (codes "int") tokens then Some Truth else (if is_word (codes "int64_t") tokens then Some Wide else None)
 
 abbrev pub field_number : Place → Option ℕ
 field_number (Field n) = Some n
@@ -382,8 +399,8 @@ read_variables scope (suc count) tokens =
 -- int P_step(P_state *state, P_context *context) {
 abbrev pub step_opening : Header → List Token
 step_opening header =
-    Word (codes "int") ∷ prefixed header (codes "step") ∷ Sign (codes "(") ∷ prefixed header (codes "state") ∷ Sign (codes "*") ∷ Word (codes "state") ∷ Sign (codes ",")
-    ∷ prefixed header (codes "context") ∷ Sign (codes "*") ∷ Word (codes "context") ∷ Sign (codes ")") ∷ Sign (codes "{") ∷ []
+    Word (codes "int") ∷ named header (codes "step") ∷ Sign (codes "(") ∷ named header (codes "state") ∷ Sign (codes "*") ∷ Word (codes "state") ∷ Sign (codes ",")
+    ∷ named header (codes "context") ∷ Sign (codes "*") ∷ Word (codes "context") ∷ Sign (codes ")") ∷ Sign (codes "{") ∷ []
 
 -- the variables and the statements of the step
 abbrev pub read_step : Header → ℕ → List Token → Read (List Declared × Statements)
@@ -393,7 +410,7 @@ read_step header depth tokens =
 
 abbrev pub read_rest : Header → ℕ → List Token → Read TranslationUnit
 read_rest header depth tokens =
-    onward (read_helpers depth tokens) (λ helpers t1. onward (read_ends header t1) (λ ends t2. onward (read_init header t2) (λ firsts t3.
+    onward (read_helpers depth depth tokens) (λ helpers t1. onward (read_ends header t1) (λ ends t2. onward (read_init header t2) (λ firsts t3.
     onward (read_step header depth t3) (λ step end. Some (record { helpers = helpers; ends = ends; firsts = firsts; variables = step.0; step = step.1 }, end)))))
 
 -- a whole file, which includes the header

@@ -85,11 +85,17 @@ pub record FieldOfState : Type 0 where
   pub name : Name
   pub width : Width
 
--- what the header says, which the file includes: P, the names of the functions r_P_X and w_P_Y, and the fields of P_state
+-- A function of the program's own, as the header declares it: int r_P_X(P_context *context, T *x) gives an input its next value, and
+-- void w_P_Y(P_context *context, T y) takes that of an output. The type T is given; that of an event has no x and no y.
+pub record Prototype : Type 0 where
+  pub name : Name
+  pub takes : Option Width
+
+-- what the header says, which the file includes: P, the functions r_P_X and w_P_Y, and the fields of P_state
 pub record Header : Type 0 where
   pub prefix : Name
-  pub inputs : List Name
-  pub outputs : List Name
+  pub inputs : List Prototype
+  pub outputs : List Prototype
   pub fields : List FieldOfState
 
 -- a variable of the step: its first value is 0, or that of a field
@@ -112,9 +118,14 @@ pub record EndRow : Type 0 where
   pub column : ℕ
   pub name : Name
 
+-- a helper as the file has it, with its statements
+pub record HelperDefinition : Type 0 where
+  pub helper : Helper
+  pub body : Statements
+
 -- a file: the helpers that it has, P_ends, what P_init gives the fields, the variables of P_step, and its statements
 pub record TranslationUnit : Type 0 where
-  pub helpers : List Helper
+  pub helpers : List HelperDefinition
   pub ends : List EndRow
   pub firsts : List ℤ
   pub variables : List Declared

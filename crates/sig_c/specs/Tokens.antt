@@ -8,7 +8,7 @@ pub data Token : Type 0 where
   Word : List ℕ → Token
   -- a punctuator (6.4.6)
   Sign : List ℕ → Token
-  -- what stands between the quotes of a string, as it is written (6.4.5)
+  -- the characters of a string, where `\"`, `\\` and `\?` stand for one each (6.4.5, 6.4.4.4)
   Quoted : List ℕ → Token
   -- the rest of a line that begins with `#` (6.10)
   Directive : List ℕ → Token
@@ -54,7 +54,8 @@ pub data Mode : Type 0 where
   Escaped : List ℕ → Mode
   -- within a comment, behind this byte
   InComment : ℕ → Mode
-  InDirective : List ℕ → Mode
+  -- within a line that begins with `#`, behind this byte
+  InDirective : (last : ℕ) → List ℕ → Mode
 
 pub record Scanned : Type 0 where
   pub mode : Mode
@@ -75,7 +76,7 @@ begin tokens byte =
     else None)))))
 
 abbrev pub fresh : List Token → ℕ → Option Scanned
-fresh tokens byte = if nat_eq byte 35 then scanned (InDirective []) tokens else begin tokens byte
+fresh tokens byte = if nat_eq byte 35 then scanned (InDirective 35 []) tokens else begin tokens byte
 
 -- a byte behind a run of punctuators
 abbrev pub in_run : List Token → List ℕ → ℕ → Option Scanned
@@ -112,10 +113,10 @@ in_quotes tokens bytes byte =
 abbrev pub escaped : List Token → List ℕ → ℕ → Option Scanned
 escaped tokens bytes byte = if list_any (nat_eq byte) (34 ∷ 92 ∷ 63 ∷ []) then scanned (InQuotes (bytes ++ byte ∷ [])) tokens else None
 
-abbrev pub in_directive : List Token → List ℕ → ℕ → Option Scanned
-in_directive tokens bytes byte =
+abbrev pub in_directive : List Token → (last : ℕ) → List ℕ → ℕ → Option Scanned
+in_directive tokens last bytes byte =
     if nat_eq byte 10 then scanned Fresh (tokens ++ Directive bytes ∷ [])
-    else (if is_printable byte && not (is_refused 32 byte) then scanned (InDirective (bytes ++ byte ∷ [])) tokens else None)
+    else (if is_printable byte && not (is_refused last byte) then scanned (InDirective byte (bytes ++ byte ∷ [])) tokens else None)
 
 abbrev pub scan_byte : Mode → List Token → ℕ → Option Scanned
 scan_byte Fresh tokens byte = fresh tokens byte
@@ -125,7 +126,7 @@ scan_byte (InRun run) tokens byte = in_run_or_comment tokens run byte
 scan_byte (InQuotes bytes) tokens byte = in_quotes tokens bytes byte
 scan_byte (Escaped bytes) tokens byte = escaped tokens bytes byte
 scan_byte (InComment last) tokens byte = in_comment tokens last byte
-scan_byte (InDirective bytes) tokens byte = in_directive tokens bytes byte
+scan_byte (InDirective last bytes) tokens byte = in_directive tokens last bytes byte
 
 -- ---- a text
 

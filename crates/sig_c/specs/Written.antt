@@ -1,13 +1,13 @@
 -- The tokens that a file of small C is written with.
 use Rattle.std.specs.Prelude.{◌∷◌, ◌++◌, ◌+◌, ◌-◌, ◌^◌, ℕ, ℤ, pos, negsuc, List, [], Bool, true, false, length, map, nat_eq, nat_lt, slice_index_or, Option, None, Some, if◌then◌else◌, codes, decimal}
-use Rattle.sig_c.specs.SmallC.{Name, Place, Variable, Field, Result, Operator, Plus, Minus, Times, Divide, Modulo, Less, LessEqual, Greater, GreaterEqual, Equal, NotEqual, And, Or, Expression, Number, Get, Not, Binary, Choose, Helper, Add, Subtract, Multiply, Quotient, Remainder, Ignored, TheVariable, TheState, TheContext, Statement, Set, When, Check, Ask, Give, Ignore, Return, Statements, none, more, Width, Truth, Wide, FieldOfState, Header, Declared, EndCause, Done, Exhausted, Overflow, DivisionByZero, EndRow, TranslationUnit}
-use Rattle.sig_c.specs.Helpers.{body_of}
+use Rattle.sig_c.specs.SmallC.{Name, Place, Variable, Field, Result, Operator, Plus, Minus, Times, Divide, Modulo, Less, LessEqual, Greater, GreaterEqual, Equal, NotEqual, And, Or, Expression, Number, Get, Not, Binary, Choose, Helper, Add, Subtract, Multiply, Quotient, Remainder, Ignored, TheVariable, TheState, TheContext, Statement, Set, When, Check, Ask, Give, Ignore, Return, Statements, none, more, Width, Truth, Wide, FieldOfState, Header, HelperDefinition, Declared, EndCause, Done, Exhausted, Overflow, DivisionByZero, EndRow, TranslationUnit}
 use Rattle.sig_c.specs.Tokens.{Token, Word, Sign, Quoted, Directive}
 
 -- ---- names
 
--- what identifiers stand for
+-- what identifiers stand for in a function: the step, or a helper, which has `*result` but neither `state` nor `context`
 pub record Scope : Type 0 where
+  pub in_helper : Bool
   pub variables : List Name
   pub fields : List Name
   pub inputs : List Name
@@ -135,18 +135,18 @@ abbrev mutual
 
 -- the parameters of a helper are its variables
 abbrev pub helper_scope : Scope
-helper_scope = record { variables = codes "a" ∷ codes "b" ∷ []; fields = []; inputs = []; outputs = [] }
+helper_scope = record { in_helper = true; variables = codes "a" ∷ codes "b" ∷ []; fields = []; inputs = []; outputs = [] }
 
 -- static int add(int64_t a, int64_t b, int64_t *result) { .. }
-abbrev pub helper_tokens : Helper → List Token
-helper_tokens helper =
-    Word (codes "static") ∷ Word (codes "int") ∷ Word (helper_name helper) ∷ Sign (codes "(") ∷ Word (codes "int64_t") ∷ Word (codes "a") ∷ Sign (codes ",")
+abbrev pub helper_tokens : HelperDefinition → List Token
+helper_tokens definition =
+    Word (codes "static") ∷ Word (codes "int") ∷ Word (helper_name definition.helper) ∷ Sign (codes "(") ∷ Word (codes "int64_t") ∷ Word (codes "a") ∷ Sign (codes ",")
     ∷ Word (codes "int64_t") ∷ Word (codes "b") ∷ Sign (codes ",") ∷ Word (codes "int64_t") ∷ Sign (codes "*") ∷ Word (codes "result") ∷ Sign (codes ")")
-    ∷ Sign (codes "{") ∷ (statements_tokens helper_scope (body_of helper) ++ Sign (codes "}") ∷ [])
+    ∷ Sign (codes "{") ∷ (statements_tokens helper_scope definition.body ++ Sign (codes "}") ∷ [])
 
-abbrev pub helpers_tokens : List Helper → List Token
+abbrev pub helpers_tokens : List HelperDefinition → List Token
 helpers_tokens [] = []
-helpers_tokens (helper ∷ helpers) = helper_tokens helper ++ helpers_tokens helpers
+helpers_tokens (definition ∷ others) = helper_tokens definition ++ helpers_tokens others
 
 -- P_NAME
 abbrev pub prefixed : Header → List ℕ → Token
@@ -215,10 +215,11 @@ variables_tokens scope (declared ∷ variables) = declared_tokens scope declared
 
 abbrev pub scope_of : Header → List Declared → Scope
 scope_of header variables = record {
+  in_helper = false;
   variables = map (λ declared. declared.name) variables;
   fields = map (λ field. field.name) header.fields;
-  inputs = header.inputs;
-  outputs = header.outputs;
+  inputs = map (λ prototype. prototype.name) header.inputs;
+  outputs = map (λ prototype. prototype.name) header.outputs;
 }
 
 -- int P_step(P_state *state, P_context *context) { .. }

@@ -5,5 +5,6 @@
 mod laws;
 
 pub use laws::{
-    files_are_read, helpers_answer, lines_have_tokens, texts_are_read, texts_have_one_unit,
+    an_example_is_read, files_are_read, helpers_answer, lines_have_tokens, texts_are_read,
+    texts_have_one_unit, types_hold_values,
 };

@@ -14,10 +14,9 @@ ghost use Rattle.sig_file.specs.Images.{ImageView};
 ghost use Rattle.sig_shipped_laws.specs.Ends.{end_in};
 ghost use Rattle.sig_program.specs.Acceptance.{IsAcceptedAs};
 ghost use Rattle.sig_image_command.specs.Builds.{AreFewBytes, IsKernelImage};
-ghost use Rattle.sig_c.specs.Names.{AreNames as AreFree};
+ghost use Rattle.sig_c.specs.Names.{HasNames};
 ghost use Rattle.sig_c.specs.SmallC.{Name, TranslationUnit};
 ghost use Rattle.sig_c.specs.Texts.{IsUnitText};
-ghost use Rattle.sig_c.specs.Written.{scope_of};
 ghost use Rattle.sig_c_step.specs.Correct.{ComesToInC};
 ghost use Rattle.sig_c_step.specs.Names.{AreNames, Names};
 ghost use Rattle.sig_c_step.specs.Translation.{header_of, variables_of};
@@ -34,7 +33,7 @@ use sig_image_command::{images_of_kernels_are_right, images_run_as_their_kernels
 pub fn c_gives_the_trace_of_its_program()
     ensures { (bytes : List ℕ) (kernel : Kernel) (image : ImageView) → length bytes ≤ PROGRAM_BYTES → IsAcceptedAs false bytes kernel → IsKernelImage kernel image
         → AreFewBytes (image_bytes image) → (names : Names) (include : Name) (notes : Notes) → AreNames image names
-        → AreFree (scope_of (header_of image names) (variables_of image names)) → AreNotes image names include notes
+        → HasNames (header_of image names) (variables_of image names) → AreNotes include notes
         → (unit : TranslationUnit) → IsUnitText include (header_of image names) (text_of image names include notes) unit
         → (flows : List (List ℤ)) → AreFlowsFor kernel flows → (limit : ℕ) (trace : Trace) (place : Option Place) (ended : Ended)
         → IsKernelEnd kernel flows limit trace place ended

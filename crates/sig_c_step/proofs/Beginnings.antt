@@ -1,11 +1,11 @@
 -- The declarations of a step: each variable has its first value, and the rest is as before.
 use Rattle.std.proofs.Common.{◌≡◌, ◌<◌, ◌+◌, ℕ, zero, suc, ℤ, Bool, true, List, [], ◌∷◌, Option, Some, None, refl, sym, ap, ◌∙◌, arith, slice_get, if◌then◌else◌}
 use Rattle.sig_c.specs.SmallC.{Place, Variable, Field, Statements, Width, Declared}
-use Rattle.sig_c.specs.Meaning.{Memory, GoesOn, Undefined, HelperCalls, and_then, may_hold, run, set, value, with_result, with_value}
+use Rattle.sig_c.specs.Meaning.{Memory, GoesOn, Undefined, Functions, and_then, may_hold, run, set, value, with_result, with_value}
 use Rattle.sig_c.specs.Calls.{declare, first_value}
 use Rattle.sig_c_step.proofs.Likeness.{at_other, at_same}
 
-module _ (call : HelperCalls) (widths : Place → Width) (step : Statements) where
+module _ (call : Functions) (widths : Place → Width) (step : Statements) where
   -- the first value of a variable is there, and its type holds it
   pub record MayBegin (m : Memory) (variable : Declared) : Type 0 where
     pub first : ℤ

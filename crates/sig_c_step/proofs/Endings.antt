@@ -11,11 +11,12 @@ use Rattle.sig_file.specs.Images.{ImageView}
 use Rattle.sig_file.specs.declared.images.ImageMemory.{ImageMemory}
 use Rattle.sig_file.specs.declared.images.ImageSignal.{ImageSignal}
 use Rattle.sig_exec.proofs.KeptKinds.{same_Some}
-use Rattle.sig_c.specs.SmallC.{Place, Variable, Field, Give, none, Width}
-use Rattle.sig_c.specs.Meaning.{Memory, Outcome, GoesOn, Returned, Undefined, HelperCalls, and_then, chosen, given_to, may_hold, run, run_one, set, truth, with_result, with_value}
+use Rattle.sig_c.specs.SmallC.{Place, Variable, Field, Get, Give, none, Width, Truth, Wide, Prototype}
+use Rattle.sig_c.specs.Meaning.{Memory, Outcome, GoesOn, Returned, Undefined, Functions, and_then, chosen, given_as, given_to, gives as given_by, run_gift, may_hold, run, run_one, set, truth, with_result, with_value}
 use Rattle.sig_c_step.specs.Correct.{given_line, line_in}
-use Rattle.sig_c_step.specs.Translation.{comes, giving, next, one, storing, value_given}
+use Rattle.sig_c_step.specs.Translation.{comes, giving, next, one, storing, taken, value_given, width_of_kind}
 use Rattle.sig_c_step.proofs.Likeness.{at_other, at_same, value_in}
+use Rattle.sig_c_step.proofs.Operations.{HasPrototype}
 
 -- the outputs of an instant with their values, from the output of this number on
 abbrev pub given_one : ℕ → Seen → List (ℕ × ℤ)
@@ -28,7 +29,7 @@ given_from image registers y (signal ∷ signals) = given_one y (seen_at registe
 
 -- ---- the fields
 
-module _ (image : ImageView) (call : HelperCalls) (widths : Place → Width) where
+module _ (image : ImageView) (call : Functions) (widths : Place → Width) where
   pub record HasStored (n : ℕ) (memories : List ImageMemory) (m after : Memory) : Type 0 where
     pub stored : (k : ℕ) → k < length memories → after.values (Field (n + k)) ≡ m.values (Variable (next image (n + k)))
     pub earlier : (k : ℕ) → k < n → after.values (Field k) ≡ m.values (Field k)
@@ -78,6 +79,8 @@ module _ (image : ImageView) (call : HelperCalls) (widths : Place → Width) whe
   pub record Shows (y : ℕ) (signals : List ImageSignal) (registers : Instant) (m : Memory) : Type 0 where
     pub come : (k : ℕ) → k < length signals → m.values (Variable (comes image (y + k))) ≡ Some (truth (is_some (seen_at registers (image.inputs + (y + k)))))
     pub has : (k : ℕ) → k < length signals → m.values (Variable (image.inputs + (y + k))) ≡ Some (value_in (seen_at registers (image.inputs + (y + k))))
+    pub functions : (k : ℕ) (signal : ImageSignal) → slice_get signals k ≡ Some signal → HasPrototype call.outputs (y + k) signal.kind
+    pub holds : (k : ℕ) (signal : ImageSignal) (v : ℤ) → slice_get signals k ≡ Some signal → seen_at registers (image.inputs + (y + k)) ≡ Some v → may_hold (width_of_kind signal.kind) v ≡ true
     pub events : (k : ℕ) (signal : ImageSignal) (v : ℤ) → slice_get signals k ≡ Some signal → signal.kind ≡ Event → seen_at registers (image.inputs + (y + k)) ≡ Some v → v ≡ pos 1
 
   shows_later : (y : ℕ) (signal : ImageSignal) (signals : List ImageSignal) (registers : Instant) (m n : Memory) → ((x : ℕ) → n.values (Variable x) ≡ m.values (Variable x))
@@ -89,16 +92,30 @@ module _ (image : ImageView) (call : HelperCalls) (widths : Place → Width) whe
     has = λ k lt. let e : suc y + k ≡ y + suc k = omega arith in
         subst (λ (i : ℕ). n.values (Variable (image.inputs + i)) ≡ Some (value_in (seen_at registers (image.inputs + i)))) (sym e)
         (same (image.inputs + (y + suc k)) ∙ shows.has (suc k) (omega (arith, lt)));
+    functions = λ k other is. let e : suc y + k ≡ y + suc k = omega arith in
+        subst (λ (i : ℕ). HasPrototype call.outputs i other.kind) (sym e) (shows.functions (suc k) other is);
+    holds = λ k other v is there. let e : suc y + k ≡ y + suc k = omega arith in
+        shows.holds (suc k) other v is (ap (λ (i : ℕ). seen_at registers (image.inputs + i)) (sym e) ∙ there);
     events = λ k other v is kind there. let e : suc y + k ≡ y + suc k = omega arith in
         shows.events (suc k) other v is kind (ap (λ (i : ℕ). seen_at registers (image.inputs + i)) (sym e) ∙ there);
   }
 
   -- one output that comes is given
-  gives_one : (y : ℕ) (kind : Kind) (v : ℤ) (m : Memory) → m.values (Variable (image.inputs + y)) ≡ Some v → (kind ≡ Event → v ≡ pos 1)
+  passes : (y : ℕ) (width : Width) (v : ℤ) (m : Memory) → m.values (Variable (image.inputs + y)) ≡ Some v → may_hold width v ≡ true
+      → given_by widths y m (Some width) (Some (Get (Variable (image.inputs + y)))) ≡ GoesOn (record m { given = m.given ++ (y, v) ∷ [] })
+  passes y width v m is holds = ap (λ (o : Option ℤ). with_result o (given_as width y m)) is ∙ ap (λ (b : Bool). if b then given_to y m v else Undefined) holds
+
+  passes_so : (y : ℕ) (kind : Kind) (v : ℤ) (m : Memory) → m.values (Variable (image.inputs + y)) ≡ Some v → may_hold (width_of_kind kind) v ≡ true → (kind ≡ Event → v ≡ pos 1)
+      → given_by widths y m (taken kind) (value_given (image.inputs + y) kind) ≡ GoesOn (record m { given = m.given ++ (y, v) ∷ [] })
+  passes_so y Integer v m is holds event = passes y Wide v m is holds
+  passes_so y Boolean v m is holds event = passes y Truth v m is holds
+  passes_so y Event v m is holds event = ap (λ (w : ℤ). GoesOn (record m { given = m.given ++ (y, w) ∷ [] })) (sym (event refl))
+
+  gives_one : (y : ℕ) (kind : Kind) (v : ℤ) (m : Memory) → HasPrototype call.outputs y kind → m.values (Variable (image.inputs + y)) ≡ Some v → may_hold (width_of_kind kind) v ≡ true → (kind ≡ Event → v ≡ pos 1)
       → run_one call widths (Give y (value_given (image.inputs + y) kind)) m ≡ GoesOn (record m { given = m.given ++ (y, v) ∷ [] })
-  gives_one y Integer v m is event = ap (λ (o : Option ℤ). with_result o (given_to y m)) is
-  gives_one y Boolean v m is event = ap (λ (o : Option ℤ). with_result o (given_to y m)) is
-  gives_one y Event v m is event = ap (λ (w : ℤ). GoesOn (record m { given = m.given ++ (y, w) ∷ [] })) (sym (event refl))
+  gives_one y kind v m has is holds event =
+      ap (λ (p : Option Prototype). run_gift widths y m p (value_given (image.inputs + y) kind)) has.at
+      ∙ ap (λ (t : Option Width). given_by widths y m t (value_given (image.inputs + y) kind)) has.takes ∙ passes_so y kind v m is holds event
 
   pub gives : (signals : List ImageSignal) (y : ℕ) (registers : Instant) (m : Memory) → Shows y signals registers m
       → run call widths (giving image y signals) m ≡ Returned 0 (record m { given = m.given ++ given_from image registers y signals })
@@ -125,7 +142,8 @@ module _ (image : ImageView) (call : HelperCalls) (widths : Place → Width) whe
         subst (λ (i : ℕ). m.values (Variable (image.inputs + i)) ≡ Some (value_in (seen_at registers (image.inputs + i)))) here (shows.has 0 (omega arith)) ∙ ap (λ (p : Option ℤ). Some (value_in p)) is in
         asked (Some v) is
         ∙ ap (λ (o : Outcome). and_then (and_then o (run call widths none)) (run call widths (giving image (suc y) signals)))
-        (gives_one y signal.kind v m has (λ event. shows.events 0 signal v refl event (ap (λ (i : ℕ). seen_at registers (image.inputs + i)) here ∙ is)))
+        (gives_one y signal.kind v m (subst (λ (i : ℕ). HasPrototype call.outputs i signal.kind) here (shows.functions 0 signal refl)) has
+        (shows.holds 0 signal v refl (ap (λ (i : ℕ). seen_at registers (image.inputs + i)) here ∙ is)) (λ event. shows.events 0 signal v refl event (ap (λ (i : ℕ). seen_at registers (image.inputs + i)) here ∙ is)))
         ∙ others told (λ x. refl)
         ∙ ap (λ (l : List (ℕ × ℤ)). Returned 0 (record m { given = l })) (append_assoc m.given ((y, v) ∷ []) (given_from image registers (suc y) signals))
         ∙ ap (λ (p : Seen). Returned 0 (record m { given = m.given ++ (given_one y p ++ given_from image registers (suc y) signals) })) (sym is)

@@ -19,7 +19,7 @@ use Rattle.sig_exec.proofs.GuardWalks.{Stays, stays}
 use Rattle.sig_exec.proofs.KeptKinds.{no, register_kind}
 use Rattle.sig_exec.proofs.Places.{condition_within, guarded_at}
 use Rattle.sig_c.specs.SmallC.{Place, When, Statements, more, Width}
-use Rattle.sig_c.specs.Meaning.{Memory, Outcome, GoesOn, Undefined, HelperCalls, and_then, chosen, run, truth}
+use Rattle.sig_c.specs.Meaning.{Memory, Outcome, GoesOn, Undefined, Functions, and_then, chosen, run, truth}
 use Rattle.sig_c_step.specs.Translation.{block, guard_of}
 use Rattle.sig_c_step.proofs.Conditions.{Tell, condition_is}
 use Rattle.sig_c_step.proofs.Likeness.{IsLike, seen_other, value_in}
@@ -69,7 +69,7 @@ module _ (image : ImageView) (right : IsImage image) where
       ∙ truth_of_value (seen_at s.registers x.0) (λ v there. register_kind image.signals s.registers x.0 Boolean v kinded.registers kind there)
 
   -- a block does its statements if its guard is true, and then what follows
-  module _ (widths : Place → Width) (call : HelperCalls) (before : Memory) (s : State) (m : Memory) (like : IsLike image before s m) (kinded : AreKinded image s) where
+  module _ (widths : Place → Width) (call : Functions) (before : Memory) (s : State) (m : Memory) (like : IsLike image before s m) (kinded : AreKinded image s) where
     asked_block : (guard : ℕ) (body after : Statements) (b : Bool) → guard_holds image guard s ≡ b
         → run call widths (more (When (guard_of image guard) body) after) m ≡ and_then (if b then run call widths body m else GoesOn m) (run call widths after)
     asked_block guard body after b is =

@@ -1,5 +1,5 @@
 -- The file of an image is laid out so that its bytes make its tokens.
-use Rattle.std.proofs.Common.{◌≡◌, ◌+◌, ◌-◌, ◌++◌, ◌&&◌, ℕ, zero, suc, pos, Bool, true, false, List, [], ◌∷◌, Option, Some, None, refl, sym, ap, subst, ◌∙◌, arith, IsTrue, length, map, nat_eq, slice_get, if◌then◌else◌, flat_map}
+use Rattle.std.proofs.Common.{filter, ◌≡◌, ◌+◌, ◌-◌, ◌++◌, ◌&&◌, ℕ, zero, suc, pos, Bool, true, false, List, [], ◌∷◌, Option, Some, None, refl, sym, ap, subst, ◌∙◌, arith, IsTrue, length, map, nat_eq, slice_get, if◌then◌else◌, flat_map}
 use Rattle.std.specs.Prelude.{nat_lt}
 use Rattle.std.specs.List.{list_all, list_any}
 use Rattle.std.proofs.lemmas.List.Concat.{flat_map-cons}
@@ -26,10 +26,11 @@ use Rattle.sig_exec.proofs.Places.{operation_at}
 use Rattle.sig_c.specs.SmallC.{Name, Expression, Number, Variable, Operator, Less, LessEqual, Greater, GreaterEqual, Equal, NotEqual, Binary, Ignored, Set, Statements, none, more, EndCause, EndRow}
 use Rattle.sig_c.specs.Meaning.{truth}
 use Rattle.sig_c.specs.Tokens.{is_printable}
-use Rattle.sig_c.specs.File.{ArePrintable}
+use Rattle.sig_c.specs.File.{AreHelpersLaid, ArePrintable}
+use Rattle.sig_c.proofs.HelperBodies.{helpers_laid}
 use Rattle.sig_c.specs.Layout.{AreLaid, IsDenied, IsGiftLaid, IsLaid}
 use Rattle.sig_c_step.specs.Names.{Names}
-use Rattle.sig_c_step.specs.Translation.{asking, block, blocks, causes_of, choice, comes, compared, computing, condition, condition_in, doing, ends_of, giving, ignoring, is_left_out, is_one_signal, is_output, joined, marking, name_in, one, operand, outputs_in, row_of, rows_of, step_in, storing, subject_of, value_given}
+use Rattle.sig_c_step.specs.Translation.{all_helpers, calls_helper, helpers_of, asking, block, blocks, causes_of, choice, comes, compared, computing, condition, condition_in, doing, ends_of, giving, ignoring, is_left_out, is_one_signal, is_output, joined, marking, name_in, one, operand, outputs_in, row_of, rows_of, step_in, storing, subject_of, value_given}
 
 pub joined_laid : (a b : Statements) → AreLaid a → AreLaid b → AreLaid (joined a b)
 joined_laid none b first second = second
@@ -104,6 +105,9 @@ asking_laid x code (Some Event) = (tt, (tt, tt))
 asking_laid x code (Some Integer) = (tt, tt)
 asking_laid x code (Some Boolean) = (tt, tt)
 asking_laid x code None = (tt, tt)
+
+pub laid_helpers : (image : ImageView) → AreHelpersLaid (helpers_of image)
+laid_helpers image = helpers_laid (filter (λ helper. list_any (calls_helper helper) image.ops) all_helpers)
 
 module _ (image : ImageView) where
   pub marking_laid : (x : ℕ) → AreLaid (marking image x)

@@ -5,6 +5,7 @@ pub mod Endings
 pub mod FunctionValues
 pub mod GuardNodes
 pub mod Guards
+pub mod Headers
 pub mod LaidOut
 pub mod Likeness
 pub mod Lists
@@ -14,4 +15,5 @@ pub mod Operations
 pub mod StateKinds
 pub mod StepCalls
 pub mod Steps
+pub mod Typed
 pub mod Variables

@@ -1,6 +1,7 @@
 -- The file of an image may be written: what it names is there, and its numbers are in range.
-use Rattle.std.proofs.Common.{◌≡◌, inl, inr, ◌<◌, ◌≤◌, ◌+◌, ◌-◌, ◌*◌, ◌++◌, ◌^◌, ℕ, zero, suc, pos, Bool, true, false, List, [], ◌∷◌, Option, Some, None, refl, sym, ap, subst, ◌∙◌, arith, IsTrue, length, length-append, length-drop, length-take, map, drop, nat_eq, slice_get, if◌then◌else◌, flat_map}
-use Rattle.std.specs.List.{AllByRecursion}
+use Rattle.std.proofs.Common.{◌≡◌, inl, inr, ◌<◌, ◌≤◌, ◌+◌, ◌-◌, ◌*◌, ◌++◌, ◌||◌, ◌^◌, ℕ, zero, suc, pos, Bool, true, false, List, [], ◌∷◌, Option, Some, None, refl, sym, ap, subst, ◌∙◌, arith, IsTrue, length, length-append, length-drop, length-take, map, drop, nat_eq, slice_get, if◌then◌else◌, flat_map}
+use Rattle.std.specs.Prelude.{filter}
+use Rattle.std.specs.List.{AllByRecursion, list_any}
 use Rattle.std.proofs.lemmas.List.{length-map}
 use Rattle.std.proofs.lemmas.List.Concat.{flat_map-cons}
 use Rattle.std.proofs.lemmas.Option.{slice_get_within}
@@ -27,18 +28,22 @@ use Rattle.sig_exec.proofs.Common.{each_at}
 use Rattle.sig_exec.proofs.KeptKinds.{accepted, alike, given, no, none_is}
 use Rattle.sig_exec.proofs.Places.{condition_within, operation_at, signal_of}
 use Rattle.sig_kernel.proofs.ValueLemmas.{value_of}
-use Rattle.sig_c.specs.SmallC.{Name, Variable, Expression, Number, Binary, Ignored, TheVariable, TheState, TheContext, Operator, Less, LessEqual, Greater, GreaterEqual, Equal, NotEqual, Set, Statements, none, more, DivisionByZero, Exhausted, Overflow, FieldOfState, Declared, EndCause, EndRow}
+use Rattle.sig_c.specs.SmallC.{Name, Helper, Variable, Expression, Number, Binary, Ignored, TheVariable, TheState, TheContext, Operator, Less, LessEqual, Greater, GreaterEqual, Equal, NotEqual, Set, Statements, none, more, DivisionByZero, Exhausted, Overflow, FieldOfState, Declared, EndCause, EndRow}
 use Rattle.sig_c.specs.Meaning.{truth}
 use Rattle.sig_c.specs.Names as c
-use Rattle.sig_c.specs.Names.{AreRows, AreStatements, AreVariables, HaveBits, IsCode, IsExpression, IsFirst, IsStatement, IsUnit}
+use Rattle.sig_c.specs.Calls.{is_helper}
+use Rattle.sig_c.specs.Helpers.{definition_of}
+use Rattle.sig_c.proofs.HelperBodies.{AreApart, helpers_right}
+use Rattle.sig_c.specs.Names.{AreHeld, HasNames, has_helper, AreRows, AreStatements, AreVariables, HaveBits, IsCode, IsExpression, IsFirst, IsStatement, IsUnit}
 use Rattle.sig_c.specs.Written as written
 use Rattle.sig_c.specs.Written.{Scope}
 use Rattle.sig_c_step.specs.Names.{AreNames, IsOfImage, Names}
 use Rattle.sig_c_step.proofs.FunctionValues.{AllOperands, row_each, sort_bits}
 use Rattle.sig_c_step.proofs.Likeness.{output_told}
-use Rattle.sig_c_step.proofs.StateKinds.{bits_of}
-use Rattle.sig_c_step.proofs.Variables.{variables_length}
-use Rattle.sig_c_step.specs.Translation.{asking, block, blocks, causes_of, choice, comes, comes_variable, compared, computing, condition, condition_in, doing, fields_of, function_causes, giving, header_of, ignoring, is_left_out, is_one_signal, joined, marking, next, next_variables, one, operand, outputs_in, row_of, rows_of, signal_variables, storing, unit_of, value_given, variables_of}
+use Rattle.sig_c_step.proofs.StateKinds.{bits_of, held}
+use Rattle.sig_c_step.proofs.Typed.{step_typed}
+use Rattle.sig_c_step.proofs.Variables.{input_names, output_names, variables_length}
+use Rattle.sig_c_step.specs.Translation.{all_helpers, calls_helper, asking, block, blocks, causes_of, choice, comes, comes_variable, compared, computing, condition, condition_in, doing, fields_of, function_causes, giving, header_of, ignoring, is_left_out, is_one_signal, joined, marking, next, next_variables, one, operand, outputs_in, row_of, rows_of, signal_variables, storing, unit_of, value_given, variables_of}
 
 -- a scope has room for what the image names
 pub record HasRoom (image : ImageView) (scope : Scope) : Type 0 where
@@ -46,6 +51,7 @@ pub record HasRoom (image : ImageView) (scope : Scope) : Type 0 where
   pub fields : length image.memories ≤ length scope.fields
   pub inputs : image.inputs ≤ length scope.inputs
   pub outputs : image.outputs ≤ length scope.outputs
+  pub step : scope.in_helper ≡ false
 
 truth_bits : (b : Bool) → has_64_bits (truth b) ≡ true
 truth_bits true = refl
@@ -252,8 +258,8 @@ module _ (image : ImageView) (right : IsImage image) (scope : Scope) (room : Has
   ignoring_right : (unread : List Ignored) → AllByRecursion (IsOfImage image) unread → AreStatements scope (ignoring unread)
   ignoring_right [] are = tt
   ignoring_right (TheVariable x ∷ unread) are = (signal_in x are.0, ignoring_right unread are.1)
-  ignoring_right (TheState ∷ unread) are = (tt, ignoring_right unread are.1)
-  ignoring_right (TheContext ∷ unread) are = (tt, ignoring_right unread are.1)
+  ignoring_right (TheState ∷ unread) are = (room.step, ignoring_right unread are.1)
+  ignoring_right (TheContext ∷ unread) are = (room.step, ignoring_right unread are.1)
 
   storing_right : (memories : List ImageMemory) (n : ℕ) → n + length memories ≤ length image.memories → AreStatements scope (storing image n memories)
   storing_right [] n few = tt
@@ -300,7 +306,7 @@ module _ (image : ImageView) where
     by true = omega arith
     by false = let c = length-map (causes_of op.kind) (row_of image op) in let f = few_causes op.kind in omega (arith, c, f)
 
-  few_rows : (ops : List ImageOp) → length (flat_map (rows_of image) ops) ≤ 2 * length ops
+  pub few_rows : (ops : List ImageOp) → length (flat_map (rows_of image) ops) ≤ 2 * length ops
   few_rows [] = omega arith
   few_rows (op ∷ ops) =
       let all : length (flat_map (rows_of image) (op ∷ ops)) ≡ length (rows_of image op) + length (flat_map (rows_of image) ops) =
@@ -348,9 +354,41 @@ first_bits : (memories : List ImageMemory) → ((k : ℕ) (memory : ImageMemory)
 first_bits [] are = tt
 first_bits (memory ∷ memories) are = (bits_of memory.kind memory.init (value_of memory.kind memory.init (are 0 memory refl).init), first_bits memories (λ k other is. are (suc k) other is))
 
+first_held : (memories : List ImageMemory) (names : List Name) → ((k : ℕ) (memory : ImageMemory) → slice_get memories k ≡ Some memory → IsMemory memory)
+    → AreHeld (fields_of memories names) (map (λ (memory : ImageMemory). memory.init) memories)
+first_held [] names are = tt
+first_held (memory ∷ memories) [] are = tt
+first_held (memory ∷ memories) (name ∷ names) are =
+    (held memory.kind memory.init (value_of memory.kind memory.init (are 0 memory refl).init), first_held memories names (λ k other is. are (suc k) other is))
+
+-- ---- helpers
+
+or_parts : (x y : Bool) → x || y ≡ false → (x ≡ false) × (y ≡ false)
+or_parts false y e = (refl, e)
+or_parts true y e = absurd (let f : true ≡ false = e in cc f)
+
+not_kept : (keep : Helper → Bool) (helper : Helper) (helpers : List Helper) → has_helper (map definition_of helpers) helper ≡ false → has_helper (map definition_of (filter keep helpers)) helper ≡ false
+not_kept keep helper [] none_is = refl
+not_kept keep helper (other ∷ others) none_is =
+    let parts = or_parts (is_helper helper other) (has_helper (map definition_of others) helper) none_is in
+    by (keep other) parts.0 (not_kept keep helper others parts.1)
+  where
+    by : (b : Bool) → is_helper helper other ≡ false → has_helper (map definition_of (filter keep others)) helper ≡ false
+        → has_helper (map definition_of (if b then other ∷ filter keep others else filter keep others)) helper ≡ false
+    by true first later = ap (λ (c : Bool). c || has_helper (map definition_of (filter keep others)) helper) first ∙ later
+    by false first later = later
+
+apart_kept : (keep : Helper → Bool) (helpers : List Helper) → AreApart helpers → AreApart (filter keep helpers)
+apart_kept keep [] apart = tt
+apart_kept keep (helper ∷ helpers) apart = by (keep helper) (apart_kept keep helpers apart.1)
+  where
+    by : (b : Bool) → AreApart (filter keep helpers) → AreApart (if b then helper ∷ filter keep helpers else filter keep helpers)
+    by true later = (not_kept keep helper helpers apart.0, later)
+    by false later = later
+
 -- ---- the whole
 
-pub may_be_written : (image : ImageView) (names : Names) → IsImage image → AreNames image names → c.AreNames (written.scope_of (header_of image names) (variables_of image names))
+pub may_be_written : (image : ImageView) (names : Names) → IsImage image → AreNames image names → HasNames (header_of image names) (variables_of image names)
     → IsUnit (header_of image names) (unit_of image names)
 may_be_written image names right named apart =
     let fields = fields_length image.memories names.fields named.fields in
@@ -358,13 +396,14 @@ may_be_written image names right named apart =
     let all = variables_length image names named in
     let variables_count : length scope.variables ≡ length (variables_of image names) = length-map (variables_of image names) (λ (variable : Declared). variable.name) in
     let fields_count : length scope.fields ≡ length (fields_of image.memories names.fields) = length-map (fields_of image.memories names.fields) (λ (field : FieldOfState). field.name) in
-    let inputs_count = named.inputs in
-    let outputs_count = named.outputs in
+    let inputs_count : length scope.inputs ≡ image.inputs = ap (λ (l : List Name). length l) (input_names image right names named) ∙ named.inputs in
+    let outputs_count : length scope.outputs ≡ image.outputs = ap (λ (l : List Name). length l) (output_names image right names named) ∙ named.outputs in
     let room : HasRoom image scope = record {
       variables = omega (arith, all, variables_count);
       fields = omega (arith, fields, fields_count);
       inputs = omega (arith, inputs_count);
       outputs = omega (arith, outputs_count);
+      step = refl;
     } in
     let few_ops : length image.ops ≤ 4096 = right.ops_few in
     let few = few_rows image image.ops in
@@ -373,11 +412,14 @@ may_be_written image names right named apart =
     let t = length-take image.outputs (drop image.inputs image.signals) in
     record {
       names = apart;
+      helpers = helpers_right (filter (λ helper. list_any (calls_helper helper) image.ops) all_helpers) (apart_kept (λ helper. list_any (calls_helper helper) image.ops) all_helpers (refl, (refl, (refl, (refl, (refl, tt))))));
       rows = (record { line = omega arith; column = omega arith }, are_rows image image.ops (λ k op is. let o = operation_at image right k op is in (o.line, o.col)));
       some_rows = omega arith;
       few_rows = omega (arith, few, few_ops);
       firsts = length-map image.memories (λ (memory : ImageMemory). memory.init) ∙ sym fields;
       bits = first_bits image.memories (λ k memory is. each_at (λ before. IsMemory) [] image.memories k memory right.memories is);
+      held = first_held image.memories names.fields (λ k memory is. each_at (λ before. IsMemory) [] image.memories k memory right.memories is);
+      types = step_typed image right names named;
       variables = variables_joined (length (fields_of image.memories names.fields)) (signal_variables image.signals names.signals) (map comes_variable names.comes ++ next_variables 0 image.memories names.nexts)
           (signals_right (length (fields_of image.memories names.fields)) image.signals names.signals)
           (variables_joined (length (fields_of image.memories names.fields)) (map comes_variable names.comes) (next_variables 0 image.memories names.nexts)

@@ -26,12 +26,12 @@ use Rattle.sig_file.specs.declared.images.ImageOpKind.TheVariants as does
 use Rattle.sig_exec.proofs.FunctionKinds.{function_kind}
 use Rattle.sig_exec.proofs.Places.{signal_of}
 use Rattle.sig_exec.proofs.KeptKinds.{AreValues, accepted, alike, flow_kind, given, kind_there, memory_kind, no, none_is, register_kind}
-use Rattle.sig_c.specs.SmallC.{Place, Variable, Field, Expression, Number, Get, Not, Binary, Equal, NotEqual, Less, LessEqual, Greater, GreaterEqual, And, Or, Helper, Add, Subtract, Multiply, Quotient, Remainder, Statement, Set, When, Check, Ask, Return, Statements, none, more, Width, Truth}
-use Rattle.sig_c.specs.Meaning.{Memory, Outcome, GoesOn, Returned, Undefined, HelperCalls, and_then, asked, answered, chosen, denied, fitted, helped, int_same, is_wide, may_hold, received, run, run_check, run_one, set, truth, value, with_result, with_value}
-use Rattle.sig_c.specs.Helpers.{called}
+use Rattle.sig_c.specs.SmallC.{Place, Variable, Field, Expression, Number, Get, Not, Binary, Equal, NotEqual, Less, LessEqual, Greater, GreaterEqual, And, Or, Helper, Add, Subtract, Multiply, Quotient, Remainder, Statement, Set, When, Check, Ask, Return, Statements, none, more, Width, Truth, Wide, Prototype}
+use Rattle.sig_c.specs.Meaning.{Memory, Outcome, GoesOn, Returned, Undefined, Functions, and_then, asked, answered, chosen, denied, fitted, helped, may_ask, takes_address, is_width, int_same, is_wide, may_hold, received, run, run_check, run_one, set, truth, value, with_result, with_value}
+use Rattle.sig_c.specs.Helpers.{body_of, called}
 use Rattle.sig_c.specs.Answers.{Answers, MayBeGiven, result_of}
 use Rattle.sig_c.proofs.HelperAnswers.{helper_answers}
-use Rattle.sig_c_step.specs.Translation.{asking, comes, compared, computing, doing, helper_for, is_called_by, joined, marking, next, one, operand, width_of_kind}
+use Rattle.sig_c_step.specs.Translation.{asking, comes, compared, computing, doing, helper_for, is_called_by, joined, marking, next, one, operand, taken, width_of_kind}
 use Rattle.sig_c_step.proofs.FunctionValues.{HasBits, HasValue, HaveBits, IsTruth, and_is, at_least_is, at_most_is, equal_is, greater_than_is, less_than_is, not_equal_is, not_is, one_value, or_is, row_bits, same_is, truth_operand, two_values, value_bits}
 use Rattle.sig_c_step.proofs.StateKinds.{AreKinded, as_many, bits_of, held}
 use Rattle.sig_c_step.proofs.Likeness.{IsLike, like_read, like_stored, like_written, marked, output_told, value_in}
@@ -43,11 +43,34 @@ pub record AreWidths (image : ImageView) (widths : Place → Width) : Type 0 whe
   pub next_too : (n : ℕ) (kind : Kind) → memory_at image.memories n ≡ Some kind → widths (Variable (next image n)) ≡ width_of_kind kind
   pub field : (n : ℕ) (kind : Kind) → memory_at image.memories n ≡ Some kind → widths (Field n) ≡ width_of_kind kind
 
--- the helpers that an operation calls are there
-abbrev pub MayCall : HelperCalls → ImageOpKind → Type 0
-MayCall call kind = (helper : Helper) → is_called_by helper kind ≡ true → (v w : ℤ) → call helper v w ≡ called helper v w
+-- the function of an input or an output of a kind takes what one of that kind does
+pub record HasPrototype (prototypes : List Prototype) (n : ℕ) (kind : Kind) : Type 0 where
+  pub prototype : Prototype
+  pub at : slice_get prototypes n ≡ Some prototype
+  pub takes : prototype.takes ≡ taken kind
 
-pub run_then : (call : HelperCalls) (widths : Place → Width) (a b : Statements) (m : Memory) → run call widths (joined a b) m ≡ and_then (run call widths a m) (run call widths b)
+-- the functions that an operation calls are there
+pub record MayCall (image : ImageView) (call : Functions) (kind : ImageOpKind) : Type 0 where
+  pub helpers : (helper : Helper) → is_called_by helper kind ≡ true → (v w : ℤ) → call.helper helper v w ≡ called (body_of helper) v w
+  pub reads : (x : SigId) (of : Kind) → kind ≡ does.Read x → kind_at image.signals x.0 ≡ Some of → HasPrototype call.inputs x.0 of
+
+-- the function of an input is called as its prototype has it
+abbrev pub address_of : ℕ → Kind → Option ℕ
+address_of x Integer = Some x
+address_of x Boolean = Some x
+address_of x Event = None
+
+module _ (image : ImageView) (widths : Place → Width) (are : AreWidths image widths) where
+  takes_so : (x : ℕ) (kind : Kind) → kind_at image.signals x ≡ Some kind → takes_address widths (taken kind) (address_of x kind) ≡ true
+  takes_so x Integer is = ap (is_width Wide) (are.signal x Integer is)
+  takes_so x Boolean is = ap (is_width Truth) (are.signal x Boolean is)
+  takes_so x Event is = refl
+
+  pub asks_so : (prototypes : List Prototype) (x : ℕ) (kind : Kind) → kind_at image.signals x ≡ Some kind → HasPrototype prototypes x kind → may_ask widths (slice_get prototypes x) (address_of x kind) ≡ true
+  asks_so prototypes x kind is has =
+      ap (λ (p : Option Prototype). may_ask widths p (address_of x kind)) has.at ∙ ap (λ (t : Option Width). takes_address widths t (address_of x kind)) has.takes ∙ takes_so x kind is
+
+pub run_then : (call : Functions) (widths : Place → Width) (a b : Statements) (m : Memory) → run call widths (joined a b) m ≡ and_then (run call widths a m) (run call widths b)
 run_then call widths none b m = refl
 run_then call widths (more statement rest) b m = by (run_one call widths statement m) (λ n. run_then call widths rest b n) where
   by : (o : Outcome) → ((n : Memory) → run call widths (joined rest b) n ≡ and_then (run call widths rest n) (run call widths b))
@@ -90,7 +113,7 @@ some_within xs x v is = elim (cases_lt x (length xs)) [
 abbrev after_reading : Memory → ℕ → List ℤ → Memory
 after_reading m x rest = record m { flows = slice_set m.flows x rest }
 
-module _ (image : ImageView) (widths : Place → Width) (are : AreWidths image widths) (call : HelperCalls) (before : Memory) where
+module _ (image : ImageView) (widths : Place → Width) (are : AreWidths image widths) (call : Functions) (before : Memory) where
   -- ---- statements
 
   -- a place of a kind is set to a value of the kind
@@ -155,19 +178,19 @@ module _ (image : ImageView) (widths : Place → Width) (are : AreWidths image w
     -- ---- helpers
 
     -- the call of a helper writes its result where it has 64 bits, and else returns
-    checks : (helper : Helper) (a b : Expression) (v w : ℤ) (y code : ℕ) → ((i j : ℤ) → call helper i j ≡ called helper i j) → kind_at image.signals y ≡ Some Integer
+    checks : (helper : Helper) (a b : Expression) (v w : ℤ) (y code : ℕ) → ((i j : ℤ) → call.helper helper i j ≡ called (body_of helper) i j) → kind_at image.signals y ≡ Some Integer
         → value widths a m ≡ Some v → value widths b m ≡ Some w → has_64_bits v ≡ true → has_64_bits w ≡ true → MayBeGiven helper w
         → run call widths (one (Check helper a b y code)) m ≡ (if has_64_bits (result_of helper v w) then GoesOn (with_value (Variable y) (result_of helper v w) m) else Returned code m)
     checks helper a b v w y code is_called wide first second small_v small_w may =
         ap (λ (o : Outcome). and_then o (run call widths none))
-        (ap (λ (o : Option ℤ). run_check call widths helper y code m o (value widths b m)) first
-        ∙ ap (λ (o : Option ℤ). run_check call widths helper y code m (Some v) o) second
-        ∙ ap (λ (t : Width). if is_wide t then helped widths y code m (call helper v w) else Undefined) (are.signal y Integer wide)
+        (ap (λ (o : Option ℤ). run_check call.helper widths helper y code m o (value widths b m)) first
+        ∙ ap (λ (o : Option ℤ). run_check call.helper widths helper y code m (Some v) o) second
+        ∙ ap (λ (t : Width). if is_wide t then helped widths y code m (call.helper helper v w) else Undefined) (are.signal y Integer wide)
         ∙ ap (helped widths y code m) (is_called v w))
         ∙ by (helper_answers helper v w small_v small_w may)
       where
-        by : Answers (called helper v w) (result_of helper v w)
-            → and_then (helped widths y code m (called helper v w)) (run call widths none)
+        by : Answers (called (body_of helper) v w) (result_of helper v w)
+            → and_then (helped widths y code m (called (body_of helper) v w)) (run call widths none)
             ≡ (if has_64_bits (result_of helper v w) then GoesOn (with_value (Variable y) (result_of helper v w) m) else Returned code m)
         by (inl (small, it)) =
             ap (λ (o : Outcome). and_then (helped widths y code m o) (run call widths none)) it.returns
@@ -180,7 +203,7 @@ module _ (image : ImageView) (widths : Place → Width) (are : AreWidths image w
             ∙ ap (λ (o : Option ℤ). and_then (received widths y m o (answered code 1)) (run call widths none)) it.leaves
             ∙ ap (λ (q : Bool). if q then GoesOn (with_value (Variable y) (result_of helper v w) m) else Returned code m) (sym large)
 
-    pub checked : (helper : Helper) (a b : Expression) (v w r : ℤ) (y code : ℕ) (small : Bool) → ((i j : ℤ) → call helper i j ≡ called helper i j) → kind_at image.signals y ≡ Some Integer
+    pub checked : (helper : Helper) (a b : Expression) (v w r : ℤ) (y code : ℕ) (small : Bool) → ((i j : ℤ) → call.helper helper i j ≡ called (body_of helper) i j) → kind_at image.signals y ≡ Some Integer
         → value widths a m ≡ Some v → value widths b m ≡ Some w → has_64_bits v ≡ true → has_64_bits w ≡ true → MayBeGiven helper w → r ≡ result_of helper v w → has_64_bits r ≡ small
         → run call widths (one (Check helper a b y code)) m ≡ (if small then GoesOn (with_value (Variable y) r m) else Returned code m)
     checked helper a b v w r y code small is_called wide first second small_v small_w may same is =
@@ -256,7 +279,7 @@ module _ (image : ImageView) (widths : Place → Width) (are : AreWidths image w
         puts : (e : Expression) → value widths e m ≡ Some v → run call widths (one (Set (Variable y.0) e)) m ≡ GoesOn (with_value (Variable y.0) v m)
         puts e has = just (Set (Variable y.0) e) m (with_value (Variable y.0) v m) (sets m y.0 kind e v is of has)
 
-        does_function : (op : FunOp) (operands : List Operand) → IsFunction image.signals y.0 op operands → MayCall call (does.Fun y op operands) → HaveValues s.registers operands values
+        does_function : (op : FunOp) (operands : List Operand) → IsFunction image.signals y.0 op operands → MayCall image call (does.Fun y op operands) → HaveValues s.registers operands values
             → Gives Bounded (function_of op) values v → run call widths (computing y.0 code op operands) m ≡ GoesOn (with_value (Variable y.0) v m)
         does_function fun.Id (a ∷ []) fit calls have gives =
             let has_bits = operand_bits image fun.Id (a ∷ []) (kind_at image.signals y.0) fit.fit in
@@ -307,34 +330,34 @@ module _ (image : ImageView) (widths : Place → Width) (are : AreWidths image w
         does_function fun.Neg (a ∷ []) fit calls have gives =
             let has_bits = operand_bits image fun.Neg (a ∷ []) (kind_at image.signals y.0) fit.fit in
             let (x, has, same) = one_given fun.Neg a values v have gives in
-            checked Subtract (Number (pos 0)) (operand a) (pos 0) x v y.0 code true (calls Subtract refl) (integer_target image fun.Neg Subtract (a ∷ []) (kind_at image.signals y.0) refl fit.fit)
+            checked Subtract (Number (pos 0)) (operand a) (pos 0) x v y.0 code true (calls.helpers Subtract refl) (integer_target image fun.Neg Subtract (a ∷ []) (kind_at image.signals y.0) refl fit.fit)
             refl (operand_there a x has_bits.0 has) refl (bits a x has_bits.0 has) tt (omega (arith, ints, same)) small
         does_function fun.Add (a ∷ b ∷ []) fit calls have gives =
             let has_bits = operand_bits image fun.Add (a ∷ b ∷ []) (kind_at image.signals y.0) fit.fit in
             let (x, w, has_a, has_b, same) = two_given fun.Add a b values v have gives in
-            checked Add (operand a) (operand b) x w v y.0 code true (calls Add refl) (integer_target image fun.Add Add (a ∷ b ∷ []) (kind_at image.signals y.0) refl fit.fit)
+            checked Add (operand a) (operand b) x w v y.0 code true (calls.helpers Add refl) (integer_target image fun.Add Add (a ∷ b ∷ []) (kind_at image.signals y.0) refl fit.fit)
             (operand_there a x has_bits.0 has_a) (operand_there b w has_bits.1.0 has_b) (bits a x has_bits.0 has_a) (bits b w has_bits.1.0 has_b) tt same small
         does_function fun.Sub (a ∷ b ∷ []) fit calls have gives =
             let has_bits = operand_bits image fun.Sub (a ∷ b ∷ []) (kind_at image.signals y.0) fit.fit in
             let (x, w, has_a, has_b, same) = two_given fun.Sub a b values v have gives in
-            checked Subtract (operand a) (operand b) x w v y.0 code true (calls Subtract refl) (integer_target image fun.Sub Subtract (a ∷ b ∷ []) (kind_at image.signals y.0) refl fit.fit)
+            checked Subtract (operand a) (operand b) x w v y.0 code true (calls.helpers Subtract refl) (integer_target image fun.Sub Subtract (a ∷ b ∷ []) (kind_at image.signals y.0) refl fit.fit)
             (operand_there a x has_bits.0 has_a) (operand_there b w has_bits.1.0 has_b) (bits a x has_bits.0 has_a) (bits b w has_bits.1.0 has_b) tt same small
         does_function fun.Mul (a ∷ b ∷ []) fit calls have gives =
             let has_bits = operand_bits image fun.Mul (a ∷ b ∷ []) (kind_at image.signals y.0) fit.fit in
             let (x, w, has_a, has_b, same) = two_given fun.Mul a b values v have gives in
-            checked Multiply (operand a) (operand b) x w v y.0 code true (calls Multiply refl) (integer_target image fun.Mul Multiply (a ∷ b ∷ []) (kind_at image.signals y.0) refl fit.fit)
+            checked Multiply (operand a) (operand b) x w v y.0 code true (calls.helpers Multiply refl) (integer_target image fun.Mul Multiply (a ∷ b ∷ []) (kind_at image.signals y.0) refl fit.fit)
             (operand_there a x has_bits.0 has_a) (operand_there b w has_bits.1.0 has_b) (bits a x has_bits.0 has_a) (bits b w has_bits.1.0 has_b) tt same small
         does_function fun.Div (a ∷ b ∷ []) fit calls have gives =
             let has_bits = operand_bits image fun.Div (a ∷ b ∷ []) (kind_at image.signals y.0) fit.fit in
             let (x, w, has_a, has_b, same) = two_given fun.Div a b values v have gives in
             divides b w code (one (Check Quotient (operand a) (operand b) y.0 (suc code))) (operand_there b w has_bits.1.0 has_b) same.0
-            ∙ checked Quotient (operand a) (operand b) x w v y.0 (suc code) true (calls Quotient refl) (integer_target image fun.Div Quotient (a ∷ b ∷ []) (kind_at image.signals y.0) refl fit.fit)
+            ∙ checked Quotient (operand a) (operand b) x w v y.0 (suc code) true (calls.helpers Quotient refl) (integer_target image fun.Div Quotient (a ∷ b ∷ []) (kind_at image.signals y.0) refl fit.fit)
             (operand_there a x has_bits.0 has_a) (operand_there b w has_bits.1.0 has_b) (bits a x has_bits.0 has_a) (bits b w has_bits.1.0 has_b) same.0 same.1 small
         does_function fun.Mod (a ∷ b ∷ []) fit calls have gives =
             let has_bits = operand_bits image fun.Mod (a ∷ b ∷ []) (kind_at image.signals y.0) fit.fit in
             let (x, w, has_a, has_b, same) = two_given fun.Mod a b values v have gives in
             divides b w code (one (Check Remainder (operand a) (operand b) y.0 code)) (operand_there b w has_bits.1.0 has_b) same.0
-            ∙ checked Remainder (operand a) (operand b) x w v y.0 code true (calls Remainder refl) (integer_target image fun.Mod Remainder (a ∷ b ∷ []) (kind_at image.signals y.0) refl fit.fit)
+            ∙ checked Remainder (operand a) (operand b) x w v y.0 code true (calls.helpers Remainder refl) (integer_target image fun.Mod Remainder (a ∷ b ∷ []) (kind_at image.signals y.0) refl fit.fit)
             (operand_there a x has_bits.0 has_a) (operand_there b w has_bits.1.0 has_b) (bits a x has_bits.0 has_a) (bits b w has_bits.1.0 has_b) same.0 same.1 small
         does_function op operands fit calls have gives = absurd (omega (arith, fit.count))
 
@@ -353,25 +376,34 @@ module _ (image : ImageView) (widths : Place → Width) (are : AreWidths image w
     pub flow_is : (x : ℕ) (flow : List ℤ) → slice_get s.flows x ≡ Some flow → slice_index_or m.flows x [] ≡ flow
     flow_is x flow is = ap (λ (l : List (List ℤ)). slice_index_or l x []) like.flows ∙ get_or_from_slice_get s.flows x flow [] is
 
+    -- then it gives what is left
+    pub asked_so : (x code : ℕ) (kind : Kind) (flow : List ℤ) → kind_at image.signals x ≡ Some kind → HasPrototype call.inputs x kind → slice_get s.flows x ≡ Some flow
+        → run_one call widths (Ask x (address_of x kind) code) m ≡ asked widths x (address_of x kind) code m flow
+    asked_so x code kind flow is has there_is =
+        ap (λ (b : Bool). if b then asked widths x (address_of x kind) code m (slice_index_or m.flows x []) else Undefined) (asks_so image widths are call.inputs x kind is has)
+        ∙ ap (asked widths x (address_of x kind) code m) (flow_is x flow there_is)
+
     -- the input takes its next value
-    asks : (x code : ℕ) (kind : Kind) (v : ℤ) (rest : List ℤ) → kind_at image.signals x ≡ Some kind → IsValue Bounded kind v → slice_get s.flows x ≡ Some (v ∷ rest)
+    asks : (x code : ℕ) (kind : Kind) (v : ℤ) (rest : List ℤ) → kind_at image.signals x ≡ Some kind → IsValue Bounded kind v → slice_get s.flows x ≡ Some (v ∷ rest) → HasPrototype call.inputs x kind
         → run call widths (asking x code (kind_at image.signals x)) m ≡ GoesOn (with_value (Variable x) v (after_reading m x rest))
-    asks x code kind v rest is of there_is = subst (λ (o : Option Kind). run call widths (asking x code o) m ≡ GoesOn (with_value (Variable x) v (after_reading m x rest))) (sym is) (by kind is of) where
-      takes : (k : Kind) → kind_at image.signals x ≡ Some k → IsValue Bounded k v → run call widths (one (Ask x (Some x) code)) m ≡ GoesOn (with_value (Variable x) v (after_reading m x rest))
-      takes k is_kind is_value =
-          ap (λ (flow : List ℤ). and_then (asked widths x (Some x) code m flow) (run call widths none)) (flow_is x (v ∷ rest) there_is)
+    asks x code kind v rest is of there_is has = subst (λ (o : Option Kind). run call widths (asking x code o) m ≡ GoesOn (with_value (Variable x) v (after_reading m x rest))) (sym is) (by kind is of has) where
+      takes : (k : Kind) → address_of x k ≡ Some x → kind_at image.signals x ≡ Some k → IsValue Bounded k v → HasPrototype call.inputs x k → run call widths (one (Ask x (Some x) code)) m ≡ GoesOn (with_value (Variable x) v (after_reading m x rest))
+      takes k address is_kind is_value its =
+          ap (λ (a : Option ℕ). and_then (run_one call widths (Ask x a code) m) (run call widths none)) (sym address)
+          ∙ ap (λ (o : Outcome). and_then o (run call widths none)) (asked_so x code k (v ∷ rest) is_kind its there_is)
+          ∙ ap (λ (a : Option ℕ). and_then (asked widths x a code m (v ∷ rest)) (run call widths none)) address
           ∙ ap (λ (w : Width). and_then (if may_hold w v then GoesOn (with_value (Variable x) v (after_reading m x rest)) else Undefined) (run call widths none)) (are.signal x k is_kind)
           ∙ ap (λ (b : Bool). and_then (if b then GoesOn (with_value (Variable x) v (after_reading m x rest)) else Undefined) (run call widths none)) (held k v is_value)
 
-      by : (k : Kind) → kind_at image.signals x ≡ Some k → IsValue Bounded k v → run call widths (asking x code (Some k)) m ≡ GoesOn (with_value (Variable x) v (after_reading m x rest))
-      by Integer is_kind is_value = takes Integer is_kind is_value
-      by Boolean is_kind is_value = takes Boolean is_kind is_value
-      by Event is_kind is_value =
-          ap (λ (flow : List ℤ). and_then (asked widths x None code m flow) (run call widths (one (Set (Variable x) (Number (pos 1)))))) (flow_is x (v ∷ rest) there_is)
+      by : (k : Kind) → kind_at image.signals x ≡ Some k → IsValue Bounded k v → HasPrototype call.inputs x k → run call widths (asking x code (Some k)) m ≡ GoesOn (with_value (Variable x) v (after_reading m x rest))
+      by Integer is_kind is_value its = takes Integer refl is_kind is_value its
+      by Boolean is_kind is_value its = takes Boolean refl is_kind is_value its
+      by Event is_kind is_value its =
+          ap (λ (o : Outcome). and_then o (run call widths (one (Set (Variable x) (Number (pos 1)))))) (asked_so x code Event (v ∷ rest) is_kind its there_is)
           ∙ just (Set (Variable x) (Number (pos 1))) (after_reading m x rest) (with_value (Variable x) (pos 1) (after_reading m x rest)) (sets (after_reading m x rest) x Event (Number (pos 1)) (pos 1) is_kind refl refl)
           ∙ ap (λ (w : ℤ). GoesOn (with_value (Variable x) w (after_reading m x rest))) (sym is_value)
 
-    pub does_is : (code : ℕ) (kind : ImageOpKind) (t : State) → IsImage image → MayDo (scope_of image) kind → MayCall call kind → Does kind s t → Follows (doing image code kind) t m
+    pub does_is : (code : ℕ) (kind : ImageOpKind) (t : State) → IsImage image → MayDo (scope_of image) kind → MayCall image call kind → Does kind s t → Follows (doing image code kind) t m
     does_is code (does.Read x) t right may calls (v, rest, is, e) =
         let interface = right.interface in
         let inside : x.0 < length image.signals = omega (arith, may, interface) in
@@ -381,7 +413,7 @@ module _ (image : ImageView) (widths : Place → Width) (are : AreWidths image w
         let behind : State = record s { flows = slice_set s.flows x.0 rest } in
         record {
           after = marked image x.0 (with_value (Variable x.0) v left);
-          goes = then_marks (asking x.0 code (kind_at image.signals x.0)) m (with_value (Variable x.0) v left) x.0 (asks x.0 code kind v rest of_kind values.0 is);
+          goes = then_marks (asking x.0 code (kind_at image.signals x.0)) m (with_value (Variable x.0) v left) x.0 (asks x.0 code kind v rest of_kind values.0 is (calls.reads x kind refl of_kind));
           like = subst (λ (u : State). IsLike image before u (marked image x.0 (with_value (Variable x.0) v left))) (sym e)
               (like_written image before behind left (like_read image before s m like x.0 rest) x v inside (as_many image s kinded));
         }

@@ -1,5 +1,5 @@
 -- A whole step: an instant that is committed is answered 0, and one that ends the run is answered the number of its row.
-use Rattle.std.proofs.Common.{◌≡◌, ◌<◌, ◌+◌, ◌++◌, ℕ, zero, suc, ℤ, pos, true, List, [], ◌∷◌, Option, Some, None, refl, sym, ap, subst, ◌∙◌, arith, length, drop, get_or, replicate, slice_get, slice_index_or, flat_map, length-drop, length-take}
+use Rattle.std.proofs.Common.{◌≡◌, ◌<◌, ◌≤◌, ◌^◌, Bool, if◌then◌else◌, ◌+◌, ◌++◌, ℕ, zero, suc, ℤ, pos, true, List, [], ◌∷◌, Option, Some, None, refl, sym, ap, subst, ◌∙◌, arith, length, drop, get_or, replicate, slice_get, slice_index_or, flat_map}
 use Rattle.std.specs.Prelude.{is_some}
 use Rattle.std.proofs.lemmas.Option.{slice_get_within, slice_get-get_or}
 use Rattle.sig_base.specs.Traces.{Seen, seen_at}
@@ -11,9 +11,9 @@ use Rattle.sig_file.specs.Images.{ImageView, IsImage, kind_at, kind_in}
 use Rattle.sig_file.specs.declared.run.ImageCause.{ImageCause}
 use Rattle.sig_exec.proofs.KeptKinds.{kind_there, memory_kind, register_kind}
 use Rattle.sig_c.specs.SmallC.{Place, Variable, Field, Ignored, Statements, none, Width, Truth, Declared, EndRow}
-use Rattle.sig_c.specs.Meaning.{Memory, Outcome, Returned, HelperCalls, and_then, may_hold, run, truth, value}
+use Rattle.sig_c.specs.Meaning.{Memory, Outcome, Returned, Undefined, Functions, and_then, answering, is_int, may_hold, run, truth, value}
 unfoldable use Rattle.sig_c.specs.Calls.{step_of}
-use Rattle.sig_c.specs.Calls.{calls_in, declare, entered, first_value, width_of_variable, widths_in}
+use Rattle.sig_c.specs.Calls.{declare, entered, functions_in, first_value, width_of_variable, widths_in}
 use Rattle.sig_c_step.specs.Correct.{IsRowOf, given_line}
 use Rattle.sig_c_step.specs.Names.{AreNames, Names}
 use Rattle.sig_c_step.specs.Translation.{blocks, comes, ends_of, giving, header_of, ignoring, joined, next, outputs_in, step_in, storing, unit_of, variables_of, width_of_kind}
@@ -22,11 +22,12 @@ use Rattle.sig_c_step.proofs.Blocks.{operations_end, operations_go}
 use Rattle.sig_c_step.proofs.Endings.{MayStore, Shows, given_from, gives, lines_are, stores}
 use Rattle.sig_c_step.proofs.Likeness.{IsLike, value_in}
 use Rattle.sig_c_step.proofs.Lists.{past, within}
-use Rattle.sig_c_step.proofs.Operations.{run_then}
+use Rattle.sig_c_step.proofs.Operations.{HasPrototype, run_then}
+use Rattle.sig_c_step.proofs.MayBeWritten.{few_rows}
 use Rattle.sig_c_step.proofs.StateKinds.{AreKinded, as_many, cleared_kinded, held}
-use Rattle.sig_c_step.proofs.Variables.{IsDeclared, Variables, begins_so, remembers, memory_there, variables_are, are_widths, may_call, memory_declared, output_declared, signal_declared}
+use Rattle.sig_c_step.proofs.Variables.{IsDeclared, Variables, output_prototype, outputs_length, begins_so, remembers, memory_there, variables_are, are_widths, may_call, memory_declared, output_declared, signal_declared}
 
-pub ignores : (call : HelperCalls) (widths : Place → Width) (unread : List Ignored) (after : Statements) (m : Memory) → run call widths (joined (ignoring unread) after) m ≡ run call widths after m
+pub ignores : (call : Functions) (widths : Place → Width) (unread : List Ignored) (after : Statements) (m : Memory) → run call widths (joined (ignoring unread) after) m ≡ run call widths after m
 ignores call widths [] after m = refl
 ignores call widths (x ∷ unread) after m = ignores call widths unread after m
 
@@ -57,8 +58,8 @@ module _ (image : ImageView) (right : IsImage image) (sound : IsSoundImage image
   abbrev widths : Place → Width
   widths = widths_in (header_of image names) (unit_of image names)
 
-  abbrev call : HelperCalls
-  call = calls_in (unit_of image names)
+  abbrev call : Functions
+  call = functions_in (header_of image names) (unit_of image names)
 
   abbrev start : State
   start = cleared (guards_of image) s
@@ -110,9 +111,19 @@ module _ (image : ImageView) (right : IsImage image) (sound : IsSoundImage image
 
   -- up to the end of the operations
   front : (after : Memory) → run call widths (declare 0 (variables_of image names) (step_in image names)) (entered m) ≡ run call widths (step_in image names) after
-      → step_of (header_of image names) (unit_of image names) m ≡ and_then (run call widths (blocks image 1 none 1 image.ops) after) (run call widths rest)
+      → step_of (header_of image names) (unit_of image names) m ≡ answering (and_then (run call widths (blocks image 1 none 1 image.ops) after) (run call widths rest))
   unfolding step_of
-  front after goes = goes ∙ ignores call widths names.unread (joined (blocks image 1 none 1 image.ops) rest) after ∙ run_then call widths (blocks image 1 none 1 image.ops) rest after
+  front after goes = ap answering (goes ∙ ignores call widths names.unread (joined (blocks image 1 none 1 image.ops) rest) after ∙ run_then call widths (blocks image 1 none 1 image.ops) rest after)
+
+  -- the number of a row is an int
+  answers_int : (number : ℕ) (row : EndRow) (after : Memory) → slice_get (ends_of image) number ≡ Some row → answering (Returned number after) ≡ Returned number after
+  answers_int number row after at =
+      let within_ends = slice_get_within (ends_of image) number row at in
+      let few = few_rows image image.ops in
+      let few_ops : length image.ops ≤ 4096 = right.ops_few in
+      let small : number < 2 ^ 15 = omega (arith, within_ends, few, few_ops) in
+      let fits : is_int (pos number) ≡ true = grind (arith, small) in
+      ap (λ (b : Bool). if b then Returned number after else Undefined) fits
 
   -- An instant that ends the run: the step answers the number of the row, the fields are as before, and no output was given.
   pub record Declines (because : ImageCause) : Type 0 where
@@ -123,16 +134,16 @@ module _ (image : ImageView) (right : IsImage image) (sound : IsSoundImage image
     pub given : after.given ≡ m.given
     pub row : EndRow
     pub at : slice_get (ends_of image) number ≡ Some row
-    pub tells : IsRowOf image row because
+    pub tells : IsRowOf image start row because
 
   pub declines : (because : ImageCause) → EndsIn (guards_of image) (guards_of image).ops start because → Declines because
   declines because ends =
       let (first, goes, it) = begun in
-      let end = operations_end image right sound widths (are_widths image names named) call (may_call image names) (entered m) start first because (like_start first it) ready.kinded ends in
+      let end = operations_end image right sound widths (are_widths image names named) call (may_call image right names named) (entered m) start first because (like_start first it) ready.kinded ends in
       record {
         number = end.number;
         after = end.after;
-        returns = front first goes ∙ ap (λ (o : Outcome). and_then o (run call widths rest)) end.returns;
+        returns = front first goes ∙ ap (λ (o : Outcome). answering (and_then o (run call widths rest))) end.returns ∙ answers_int end.number end.row end.after end.at;
         fields = λ n. end.like.fields n;
         given = end.like.given;
         row = end.row;
@@ -141,13 +152,6 @@ module _ (image : ImageView) (right : IsImage image) (sound : IsSoundImage image
       }
 
   -- ---- an instant that is committed
-
-  outputs_length : length (outputs_in image) ≡ image.outputs
-  outputs_length =
-      let i = right.interface in
-      let d = length-drop image.inputs image.signals in
-      let t = length-take image.outputs (drop image.inputs image.signals) in
-      omega (arith, i, d, t)
 
   output_at : (k : ℕ) → k < image.outputs → slice_get image.signals (image.inputs + (0 + k)) ≡ slice_get (outputs_in image) k
   output_at k lt =
@@ -159,15 +163,26 @@ module _ (image : ImageView) (right : IsImage image) (sound : IsSoundImage image
       → Shows image call widths 0 (outputs_in image) t.registers n
   shows t led like kinded n same = record {
     come = λ k lt.
-        let c = outputs_length in
+        let c = outputs_length image right names named in
         let e : 0 + k ≡ k = omega arith in
         same (comes image (0 + k)) ∙ subst (λ (i : ℕ). led.values (Variable (comes image i)) ≡ Some (truth (is_some (seen_at t.registers (image.inputs + i))))) (sym e) (like.outputs k (omega (arith, lt, c)));
     has = λ k lt.
-        let c = outputs_length in
+        let c = outputs_length image right names named in
         let i = right.interface in
         same (image.inputs + (0 + k)) ∙ like.signals (image.inputs + (0 + k)) (omega (arith, lt, c, i));
+    functions = λ k signal at.
+        let c = outputs_length image right names named in
+        let lt = slice_get_within (outputs_in image) k signal at in
+        let e : 0 + k ≡ k = omega arith in
+        subst (λ (i : ℕ). HasPrototype call.outputs i signal.kind) (sym e)
+        (output_prototype image right names named k signal.kind (omega (arith, lt, c)) (ap (λ (i : ℕ). kind_at image.signals (image.inputs + i)) (sym e) ∙ ap kind_in (output_at k (omega (arith, lt, c)) ∙ at)));
+    holds = λ k signal v at there.
+        let c = outputs_length image right names named in
+        let lt = slice_get_within (outputs_in image) k signal at in
+        let is : kind_at image.signals (image.inputs + (0 + k)) ≡ Some signal.kind = ap kind_in (output_at k (omega (arith, lt, c)) ∙ at) in
+        held signal.kind v (register_kind image.signals t.registers (image.inputs + (0 + k)) signal.kind v kinded.registers is there);
     events = λ k signal v at kind there.
-        let c = outputs_length in
+        let c = outputs_length image right names named in
         let lt = slice_get_within (outputs_in image) k signal at in
         let is : kind_at image.signals (image.inputs + (0 + k)) ≡ Some Event = ap kind_in (output_at k (omega (arith, lt, c)) ∙ at) ∙ ap Some kind in
         register_kind image.signals t.registers (image.inputs + (0 + k)) Event v kinded.registers is there;
@@ -184,17 +199,17 @@ module _ (image : ImageView) (right : IsImage image) (sound : IsSoundImage image
   instant_is t kinded =
       lines_are image t.registers (outputs_in image) (drop image.inputs t.registers) 0
       (λ k lt.
-      let c = outputs_length in
+      let c = outputs_length image right names named in
       let i = right.interface in
       let r = as_many image t kinded in
       let e : image.inputs + k ≡ image.inputs + (0 + k) = omega arith in
       past image.inputs t.registers k ∙ slice_get-get_or t.registers (image.inputs + k) None (omega (arith, lt, c, i, r)) ∙ ap (λ (j : ℕ). Some (seen_at t.registers j)) e)
-      (λ k lt. let c = outputs_length in output_at k (omega (arith, lt, c)))
+      (λ k lt. let c = outputs_length image right names named in output_at k (omega (arith, lt, c)))
 
   pub commits : (t : State) → HandlesAll (guards_of image) (guards_of image).ops start t → Commits t
   commits t handles =
       let (first, goes, it) = begun in
-      let led = operations_go image right sound widths (are_widths image names named) call (may_call image names) (entered m) start t first (like_start first it) ready.kinded handles in
+      let led = operations_go image right sound widths (are_widths image names named) call (may_call image right names named) (entered m) start t first (like_start first it) ready.kinded handles in
       let (stored, kept, has) = stores image call widths image.memories 0 led.after (λ k lt.
       let e : 0 + k ≡ k = omega arith in
       let (kind, is) = memory_there image names named image.memories k lt in
@@ -207,9 +222,9 @@ module _ (image : ImageView) (right : IsImage image) (sound : IsSoundImage image
       })) in
       record {
         after = record stored { given = stored.given ++ given_from image t.registers 0 (outputs_in image) };
-        returns = front first goes ∙ ap (λ (o : Outcome). and_then o (run call widths rest)) led.goes ∙ run_then call widths (storing image 0 image.memories) (giving image 0 (outputs_in image)) led.after
+        returns = front first goes ∙ ap (λ (o : Outcome). answering (and_then o (run call widths rest))) led.goes ∙ ap answering (run_then call widths (storing image 0 image.memories) (giving image 0 (outputs_in image)) led.after
             ∙ ap (λ (o : Outcome). and_then o (run call widths (giving image 0 (outputs_in image)))) kept
-            ∙ gives image call widths (outputs_in image) 0 t.registers stored (shows t led.after led.like led.kinded stored has.variables);
+            ∙ gives image call widths (outputs_in image) 0 t.registers stored (shows t led.after led.like led.kinded stored has.variables));
         next_ready = record {
           kinded = cleared_kinded image right t led.kinded;
           fields = λ n lt. let e : n ≡ 0 + n = omega arith in

@@ -1,7 +1,7 @@
 -- The variables of a step and the fields of its state have the types and the first values that the image asks for, and the helpers that it calls
 -- are there.
-use Rattle.std.proofs.Common.{◌≡◌, ◌<◌, ◌+◌, ◌-◌, ◌++◌, inl, inr, ℕ, zero, suc, Bool, true, false, List, [], ◌∷◌, Option, Some, None, refl, sym, ap, ◌∙◌, arith, length, length-append, map, slice_get, if◌then◌else◌}
-use Rattle.std.specs.Prelude.{option_map}
+use Rattle.std.proofs.Common.{◌≡◌, ◌<◌, ◌+◌, ◌-◌, ◌++◌, ◌||◌, inl, inr, ℕ, zero, suc, Bool, true, false, List, [], ◌∷◌, Option, Some, None, refl, sym, ap, ◌∙◌, arith, length, length-append, length-drop, length-take, drop, map, subst, slice_get, if◌then◌else◌}
+use Rattle.std.specs.Prelude.{filter, option_map}
 use Rattle.std.specs.List.{list_any}
 use Rattle.std.proofs.lemmas.Bool.{cases_lt}
 use Rattle.std.proofs.lemmas.List.{length-map}
@@ -10,19 +10,21 @@ use Rattle.sig_lists.proofs.Joined.{still_at}
 use Rattle.sig_lists.proofs.Places.{some_at}
 use Rattle.sig_base.specs.declared.ids.Kind.{Kind}
 use Rattle.sig_base.specs.declared.ids.Kind.TheVariants.{Boolean}
-use Rattle.sig_file.specs.Images.{ImageView, kind_at, memory_at}
+use Rattle.sig_file.specs.Images.{ImageView, IsImage, MayDo, kind_at, kind_in, memory_at, scope_of}
 use Rattle.sig_file.specs.declared.images.ImageMemory.{ImageMemory}
 use Rattle.sig_file.specs.declared.images.ImageOp.{ImageOp}
+use Rattle.sig_file.specs.declared.images.ImageOpKind.TheVariants as does
 use Rattle.sig_file.specs.declared.images.ImageSignal.{ImageSignal}
 use Rattle.sig_exec.proofs.KeptKinds.{kind_there, none_is, same_Some}
-use Rattle.sig_c.specs.SmallC.{Name, Helper, Add, Subtract, Multiply, Quotient, Remainder, Width, Truth, Declared}
-use Rattle.sig_c.specs.Meaning.{Undefined}
-use Rattle.sig_c.specs.Calls.{calls_in, is_helper, widths_in, width_of_field, width_of_variable}
-use Rattle.sig_c.specs.Helpers.{called}
+use Rattle.sig_exec.proofs.Places.{operation_at}
+use Rattle.sig_c.specs.SmallC.{Name, Helper, Add, Subtract, Multiply, Quotient, Remainder, Width, Truth, FieldOfState, Prototype, HelperDefinition, Declared, Statements}
+use Rattle.sig_c.specs.Calls.{body_in, call_of, functions_in, is_helper, widths_in, width_of_field, width_of_variable}
+use Rattle.sig_c.specs.Helpers.{body_of, definition_of}
+use Rattle.sig_c.specs.Names.{has_helper}
 use Rattle.sig_c_step.specs.Names.{AreNames, Names}
-use Rattle.sig_c_step.specs.Translation.{calls_helper, comes, comes_variable, fields_of, header_of, is_left_out, next, next_variables, signal_variables, unit_of, variables_of, width_of_kind}
-use Rattle.sig_c_step.proofs.Lists.{any_at, any_kept, behind_all}
-use Rattle.sig_c_step.proofs.Operations.{AreWidths, MayCall}
+use Rattle.sig_c_step.specs.Translation.{all_helpers, calls_helper, comes, comes_variable, fields_of, header_of, helpers_of, inputs_in, is_called_by, is_left_out, next, next_variables, outputs_in, prototypes_of, taken, signal_variables, unit_of, variables_of, width_of_kind}
+use Rattle.sig_c_step.proofs.Lists.{any_at, behind_all, past, within}
+use Rattle.sig_c_step.proofs.Operations.{AreWidths, HasPrototype, MayCall}
 
 -- the variable at a place, its type and its first value
 pub record IsDeclared (variables : List Declared) (place : ℕ) (width : Width) (first : Option ℕ) : Type 0 where
@@ -62,11 +64,11 @@ next_at from (memory ∷ memories) (name ∷ names) (suc n) kind count is =
     let e : suc from + n ≡ from + suc n = omega arith in
     record { variable = it.variable; is = it.is; width_is = it.width_is; first_is = it.first_is ∙ ap Some e }
 
-field_at : (memories : List ImageMemory) (names : List Name) (n : ℕ) (kind : Kind) → length names ≡ length memories → memory_at memories n ≡ Some kind
-    → width_of_field (slice_get (fields_of memories names) n) ≡ width_of_kind kind
+pub field_at : (memories : List ImageMemory) (names : List Name) (n : ℕ) (kind : Kind) → length names ≡ length memories → memory_at memories n ≡ Some kind
+    → (field : FieldOfState) × (slice_get (fields_of memories names) n ≡ Some field) × (field.width ≡ width_of_kind kind)
 field_at [] names n kind count is = none_is kind is
 field_at (memory ∷ memories) [] n kind count is = absurd (omega (arith, count))
-field_at (memory ∷ memories) (name ∷ names) zero kind count is = ap width_of_kind (same_Some memory.kind kind is)
+field_at (memory ∷ memories) (name ∷ names) zero kind count is = (record { name = name; width = width_of_kind memory.kind }, refl, ap width_of_kind (same_Some memory.kind kind is))
 field_at (memory ∷ memories) (name ∷ names) (suc n) kind count is = field_at memories names n kind (omega (arith, count)) is
 
 module _ (image : ImageView) (names : Names) (are : AreNames image names) where
@@ -156,24 +158,111 @@ module _ (image : ImageView) (names : Names) (are : AreNames image names) where
     signal = λ x kind is. let it = signal_declared x kind is in ap width_of_variable it.is ∙ it.width_is;
     comes_too = λ y inside. let it = output_declared y inside in ap width_of_variable it.is ∙ it.width_is;
     next_too = λ n kind is. let it = memory_declared n kind is in ap width_of_variable it.is ∙ it.width_is;
-    field = λ n kind is. field_at image.memories names.fields n kind are.fields is;
+    field = λ n kind is. let (field, at, width) = field_at image.memories names.fields n kind are.fields is in ap width_of_field at ∙ width;
   }
+
+-- ---- prototypes
+
+-- their names are those that were given
+pub prototype_names : (signals : List ImageSignal) (names : List Name) → length names ≡ length signals → map (λ (prototype : Prototype). prototype.name) (prototypes_of signals names) ≡ names
+prototype_names [] [] count = refl
+prototype_names [] (name ∷ names) count = absurd (omega (arith, count))
+prototype_names (signal ∷ signals) [] count = absurd (omega (arith, count))
+prototype_names (signal ∷ signals) (name ∷ names) count = ap (λ (l : List Name). name ∷ l) (prototype_names signals names (omega (arith, count)))
+
+pub prototype_at : (signals : List ImageSignal) (names : List Name) (n : ℕ) (kind : Kind) → length names ≡ length signals → kind_at signals n ≡ Some kind → HasPrototype (prototypes_of signals names) n kind
+prototype_at [] names n kind count is = none_is kind is
+prototype_at (signal ∷ signals) [] n kind count is = absurd (omega (arith, count))
+prototype_at (signal ∷ signals) (name ∷ names) zero kind count is = record { prototype = _; at = refl; takes = ap taken (same_Some signal.kind kind is) }
+prototype_at (signal ∷ signals) (name ∷ names) (suc n) kind count is =
+    let it = prototype_at signals names n kind (omega (arith, count)) is in
+    record { prototype = it.prototype; at = it.at; takes = it.takes }
+
+module _ (image : ImageView) (right : IsImage image) (names : Names) (are : AreNames image names) where
+  pub inputs_length : length (inputs_in image) ≡ image.inputs
+  inputs_length = let i = right.interface in let t = length-take image.inputs image.signals in omega (arith, i, t)
+
+  pub outputs_length : length (outputs_in image) ≡ image.outputs
+  outputs_length =
+      let i = right.interface in
+      let d = length-drop image.inputs image.signals in
+      let t = length-take image.outputs (drop image.inputs image.signals) in
+      omega (arith, i, d, t)
+
+  pub input_names : map (λ (prototype : Prototype). prototype.name) (prototypes_of (inputs_in image) names.inputs) ≡ names.inputs
+  input_names = prototype_names (inputs_in image) names.inputs (are.inputs ∙ sym inputs_length)
+
+  pub output_names : map (λ (prototype : Prototype). prototype.name) (prototypes_of (outputs_in image) names.outputs) ≡ names.outputs
+  output_names = prototype_names (outputs_in image) names.outputs (are.outputs ∙ sym outputs_length)
+
+  pub input_prototype : (x : ℕ) (kind : Kind) → x < image.inputs → kind_at image.signals x ≡ Some kind → HasPrototype (prototypes_of (inputs_in image) names.inputs) x kind
+  input_prototype x kind inside is =
+      prototype_at (inputs_in image) names.inputs x kind (are.inputs ∙ sym inputs_length) (ap kind_in (within image.inputs image.signals x inside) ∙ is)
+
+  pub output_prototype : (y : ℕ) (kind : Kind) → y < image.outputs → kind_at image.signals (image.inputs + y) ≡ Some kind → HasPrototype (prototypes_of (outputs_in image) names.outputs) y kind
+  output_prototype y kind inside is =
+      prototype_at (outputs_in image) names.outputs y kind (are.outputs ∙ sym outputs_length)
+      (ap kind_in (within image.outputs (drop image.inputs image.signals) y inside ∙ past image.inputs image.signals y) ∙ is)
 
 -- ---- helpers
 
-abbrev all_helpers : List Helper
-all_helpers = Add ∷ Subtract ∷ Multiply ∷ Quotient ∷ Remainder ∷ []
-
-helper_there : (helper : Helper) → (k : ℕ) × (slice_get all_helpers k ≡ Some helper) × (is_helper helper helper ≡ true)
+pub helper_there : (helper : Helper) → (k : ℕ) × (slice_get all_helpers k ≡ Some helper) × (is_helper helper helper ≡ true)
 helper_there Add = (0, refl, refl)
 helper_there Subtract = (1, refl, refl)
 helper_there Multiply = (2, refl, refl)
 helper_there Quotient = (3, refl, refl)
 helper_there Remainder = (4, refl, refl)
 
-pub may_call : (image : ImageView) (names : Names) (n : ℕ) (op : ImageOp) → slice_get image.ops n ≡ Some op → is_left_out op ≡ false → MayCall (calls_in (unit_of image names)) op.kind
-may_call image names n op at kept helper calls v w =
+one_body : (a b : Helper) → is_helper a b ≡ true → body_of b ≡ body_of a
+one_body Add Add is = refl
+one_body Subtract Subtract is = refl
+one_body Multiply Multiply is = refl
+one_body Quotient Quotient is = refl
+one_body Remainder Remainder is = refl
+one_body a b is = absurd (let e : false ≡ true = is in cc e)
+
+-- a helper that is kept has its statements
+body_kept : (keep : Helper → Bool) (helper : Helper) (helpers : List Helper) (k : ℕ) → slice_get helpers k ≡ Some helper → is_helper helper helper ≡ true → keep helper ≡ true
+    → body_in helper (map definition_of (filter keep helpers)) ≡ Some (body_of helper)
+body_kept keep helper [] k is self kept = absurd (let e : None ≡ Some helper = is in cc e)
+body_kept keep helper (other ∷ others) zero is self kept =
+    let same : other ≡ helper = cc is in
+    let there : keep other ≡ true = ap keep same ∙ kept in
+    let it : is_helper helper other ≡ true = ap (is_helper helper) same ∙ self in
+    ap (λ (b : Bool). body_in helper (map definition_of (if b then other ∷ filter keep others else filter keep others))) there
+    ∙ ap (λ (b : Bool). if b then Some (body_of other) else body_in helper (map definition_of (filter keep others))) it ∙ ap (λ (h : Helper). Some (body_of h)) same
+body_kept keep helper (other ∷ others) (suc k) is self kept = by (keep other) (is_helper helper other) refl (body_kept keep helper others k is self kept)
+  where
+    by : (b c : Bool) → is_helper helper other ≡ c → body_in helper (map definition_of (filter keep others)) ≡ Some (body_of helper)
+        → body_in helper (map definition_of (if b then other ∷ filter keep others else filter keep others)) ≡ Some (body_of helper)
+    by false c e later = later
+    by true true e later = ap (λ (b : Bool). if b then Some (body_of other) else body_in helper (map definition_of (filter keep others))) e ∙ ap Some (one_body helper other e)
+    by true false e later = ap (λ (b : Bool). if b then Some (body_of other) else body_in helper (map definition_of (filter keep others))) e ∙ later
+
+has_body : (helper : Helper) (definitions : List HelperDefinition) (body : Statements) → body_in helper definitions ≡ Some body → has_helper definitions helper ≡ true
+has_body helper [] body is = absurd (let e : None ≡ Some body = is in cc e)
+has_body helper (definition ∷ others) body is = by (is_helper helper definition.helper) is (has_body helper others body)
+  where
+    by : (b : Bool) → (if b then Some definition.body else body_in helper others) ≡ Some body → (body_in helper others ≡ Some body → has_helper others helper ≡ true) → b || has_helper others helper ≡ true
+    by true found later = refl
+    by false found later = later found
+
+-- the helper that an operation calls is there
+pub helper_kept : (image : ImageView) (n : ℕ) (op : ImageOp) (helper : Helper) → slice_get image.ops n ≡ Some op → is_left_out op ≡ false → is_called_by helper op.kind ≡ true → has_helper (helpers_of image) helper ≡ true
+helper_kept image n op helper at kept calls =
     let (k, is, same) = helper_there helper in
     let asked : calls_helper helper op ≡ true = rw kept (rw calls refl) in
-    ap (λ (b : Bool). if b then called helper v w else Undefined)
-    (any_kept (λ other. list_any (calls_helper other) image.ops) (is_helper helper) all_helpers k helper is (any_at (calls_helper helper) image.ops n op at asked) same)
+    has_body helper (helpers_of image) (body_of helper) (body_kept (λ other. list_any (calls_helper other) image.ops) helper all_helpers k is same (any_at (calls_helper helper) image.ops n op at asked))
+
+pub may_call : (image : ImageView) → IsImage image → (names : Names) → AreNames image names → (n : ℕ) (op : ImageOp) → slice_get image.ops n ≡ Some op → is_left_out op ≡ false
+    → MayCall image (functions_in (header_of image names) (unit_of image names)) op.kind
+may_call image right names are n op at kept = record {
+  helpers = λ helper calls v w.
+      let (k, is, same) = helper_there helper in
+      let asked : calls_helper helper op ≡ true = rw kept (rw calls refl) in
+      ap (λ (o : Option Statements). call_of o v w) (body_kept (λ other. list_any (calls_helper other) image.ops) helper all_helpers k is same (any_at (calls_helper helper) image.ops n op at asked));
+  reads = λ x kind is of.
+      let o = (operation_at image right n op at).kind in
+      let may : MayDo (scope_of image) (does.Read x) = subst (MayDo (scope_of image)) is o in
+      input_prototype image right names are x.0 kind may of;
+}

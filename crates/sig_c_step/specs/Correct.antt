@@ -1,8 +1,9 @@
 -- What calls of a step do, compared with a run of an image.
-use Rattle.std.specs.Prelude.{◌≡◌, ◌+◌, ℕ, ℤ, List, [], slice_get, Option, None, Some}
+use Rattle.std.specs.Prelude.{◌≡◌, ◌∷◌, ◌+◌, ℕ, zero, suc, ℤ, true, List, [], slice_get, Option, None, Some}
 use Rattle.std.specs.List.{flat_map}
 use Rattle.sig_kernel.specs.OutputText.{line_of}
-use Rattle.sig_file.specs.ImageRuns.{Ends, State}
+use Rattle.sig_file.specs.Guarded.{Guarded, Guards, guards_of}
+use Rattle.sig_file.specs.ImageRuns.{Ends, Handles, HandlesAll, State, cleared, holds, opening}
 use Rattle.sig_file.specs.Images.{ImageView}
 use Rattle.sig_file.specs.declared.images.ImageOp.{ImageOp}
 use Rattle.sig_file.specs.declared.images.ImageOpKind.{ImageOpKind}
@@ -42,13 +43,25 @@ IsAbout (does.Read x) signal = signal ≡ x.0
 IsAbout (does.Fun y op operands) signal = signal ≡ y.0
 IsAbout other signal = ⊥
 
--- A row of P_ends is that of a cause: in some state an operation ends a run by this cause, and the row has the place of that operation and
--- the name of its signal.
-pub record IsRowOf (image : ImageView) (row : EndRow) (cause : ImageCause) : Type 0 where
+-- So many instants are committed from one state on, and lead to another one.
+abbrev pub Commit : Guards → (instants : ℕ) → State → State → Type 0
+Commit guards zero s last = last ≡ s
+Commit guards (suc instants) s last = (t : State) × HandlesAll guards guards.ops (cleared guards s) t × Commit guards instants t last
+
+-- Operations are handled in order up to the one at this place, which ends the run in this state.
+abbrev pub EndsAt : Guards → List Guarded → State → ImageCause → (place : ℕ) → State → Type 0
+EndsAt guards [] s cause place state = ⊥
+EndsAt guards (op ∷ ops) s cause zero state = (holds guards op s ≡ true) × Ends op.kind op.at s cause × (state ≡ s)
+EndsAt guards (op ∷ ops) s cause (suc place) state = (middle : State) × Handles guards op s middle × EndsAt guards ops middle cause place state
+
+-- A row of P_ends is that of the end of an instant, whose operations begin in this state: the operation that ends the run has the place
+-- that the row has, and is about the signal whose name it has.
+pub record IsRowOf (image : ImageView) (start : State) (row : EndRow) (cause : ImageCause) : Type 0 where
   pub place : ℕ
+  pub state : State
+  pub stops : EndsAt (guards_of image) (guards_of image).ops start cause place state
   pub op : ImageOp
   pub at : slice_get image.ops place ≡ Some op
-  pub state : State
   pub ends : Ends op.kind op.at state cause
   pub about : ℕ
   pub is_about : IsAbout op.kind about
@@ -59,22 +72,24 @@ pub record IsRowOf (image : ImageView) (row : EndRow) (cause : ImageCause) : Typ
   pub column_is : row.column ≡ op.at.col
   pub name_is : row.name ≡ signal.name
 
--- The call after those that answer 0 answers the number of the row of the cause. It leaves each field of the state as it was, and gives
--- no output.
-pub record Refuses (unit : TranslationUnit) (image : ImageView) (before : Memory) (cause : ImageCause) (came : Called) (instants : ℕ) : Type 0 where
+-- The call after those that answer 0 answers the number of the row of the end to which the instants lead. It leaves each field of the
+-- state as it was, and gives no output.
+pub record Refuses (unit : TranslationUnit) (image : ImageView) (first : State) (before : Memory) (cause : ImageCause) (came : Called) (instants : ℕ) : Type 0 where
   pub code : ℕ
   pub after : Memory
   pub answers : came ≡ Answered instants code after
+  pub last : State
+  pub leads : Commit (guards_of image) instants first last
   pub row : EndRow
   pub at : slice_get unit.ends code ≡ Some row
-  pub tells : IsRowOf image row cause
+  pub tells : IsRowOf image (cleared (guards_of image) last) row cause
   pub fields : (n : ℕ) → after.values (Field n) ≡ before.values (Field n)
   pub outputs : after.given ≡ before.given
 
 -- why no further call answers 0: the limit is reached, or the next call refuses
-abbrev pub EndsInC : TranslationUnit → ImageView → Memory → ImageCause → Called → (instants : ℕ) → Type 0
-EndsInC unit image before Limit came instants = came ≡ called.Limit before
-EndsInC unit image before cause came instants = Refuses unit image before cause came instants
+abbrev pub EndsInC : TranslationUnit → ImageView → State → Memory → ImageCause → Called → (instants : ℕ) → Type 0
+EndsInC unit image first before Limit came instants = came ≡ called.Limit before
+EndsInC unit image first before cause came instants = Refuses unit image first before cause came instants
 
 -- Calls of a step, up to a limit, where the functions of the inputs give these flows, do what a run of the image does, which has this
 -- text and this end. As many calls answer 0 as the run has instants. The functions of the outputs are given the values whose lines make
@@ -82,6 +97,6 @@ EndsInC unit image before cause came instants = Refuses unit image before cause 
 pub record ComesToInC (header : Header) (unit : TranslationUnit) (image : ImageView) (flows : List (List ℤ)) (limit : ℕ) (text : List ℕ) (end : ImageEnd) : Type 0 where
   -- the memory after the calls that answer 0
   pub before : Memory
-  pub done : calls end.instants (step_of header unit) (begun unit flows) ≡ called.Limit before
+  pub done : calls end.instants (step_of header unit) (begun header unit flows) ≡ called.Limit before
   pub lines : text ≡ flat_map (given_line image) before.given
-  pub ends : EndsInC unit image before end.cause (calls limit (step_of header unit) (begun unit flows)) end.instants
+  pub ends : EndsInC unit image (opening (guards_of image) flows) before end.cause (calls limit (step_of header unit) (begun header unit flows)) end.instants

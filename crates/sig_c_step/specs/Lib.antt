@@ -1,3 +1,4 @@
+pub mod Headers
 pub mod Names
 pub mod Translation
 pub mod Correct

@@ -17,9 +17,10 @@ use Rattle.sig_file.specs.declared.images.ImageOp.{ImageOp}
 use Rattle.sig_file.specs.declared.images.ImageOpKind.{ImageOpKind}
 use Rattle.sig_file.specs.declared.images.ImageOpKind.TheVariants as does
 use Rattle.sig_file.specs.declared.images.ImageSignal.{ImageSignal}
-use Rattle.sig_c.specs.SmallC.{Name, Variable, Field, Operator, Less, LessEqual, Greater, GreaterEqual, Equal, NotEqual, And, Or, Expression, Number, Get, Not, Binary, Choose, Helper, Add, Subtract, Multiply, Quotient, Remainder, Ignored, Statement, Set, When, Check, Ask, Give, Ignore, Return, Statements, none, more, Width, Truth, Wide, FieldOfState, Header, Declared, EndCause, Done, Exhausted, Overflow, DivisionByZero, EndRow, TranslationUnit}
+use Rattle.sig_c.specs.SmallC.{Name, Variable, Field, Operator, Less, LessEqual, Greater, GreaterEqual, Equal, NotEqual, And, Or, Expression, Number, Get, Not, Binary, Choose, Helper, Add, Subtract, Multiply, Quotient, Remainder, Ignored, Statement, Set, When, Check, Ask, Give, Ignore, Return, Statements, none, more, Width, Truth, Wide, FieldOfState, Prototype, Header, HelperDefinition, Declared, EndCause, Done, Exhausted, Overflow, DivisionByZero, EndRow, TranslationUnit}
 use Rattle.sig_c.specs.Meaning.{truth}
 use Rattle.sig_c.specs.Calls.{is_helper}
+use Rattle.sig_c.specs.Helpers.{definition_of}
 use Rattle.sig_c_step.specs.Names.{Names}
 
 -- ---- statements
@@ -221,9 +222,12 @@ is_called_by helper other = false
 abbrev pub calls_helper : Helper → ImageOp → Bool
 calls_helper helper op = not (is_left_out op) && is_called_by helper op.kind
 
+abbrev pub all_helpers : List Helper
+all_helpers = Add ∷ Subtract ∷ Multiply ∷ Quotient ∷ Remainder ∷ []
+
 -- those that some operation calls
-abbrev pub helpers_of : ImageView → List Helper
-helpers_of image = filter (λ helper. list_any (calls_helper helper) image.ops) (Add ∷ Subtract ∷ Multiply ∷ Quotient ∷ Remainder ∷ [])
+abbrev pub helpers_of : ImageView → List HelperDefinition
+helpers_of image = map definition_of (filter (λ helper. list_any (calls_helper helper) image.ops) all_helpers)
 
 -- ---- blocks
 
@@ -272,10 +276,31 @@ step_in image names =
     joined (ignoring names.unread)
     (joined (blocks image 1 none 1 image.ops) (joined (storing image 0 image.memories) (giving image 0 (outputs_in image))))
 
--- ---- the whole
+-- ---- the header
+
+-- what the function of an input or an output of this kind takes beside the context
+abbrev pub taken : Kind → Option Width
+taken Integer = Some Wide
+taken Boolean = Some Truth
+taken Event = None
+
+abbrev pub prototypes_of : List ImageSignal → List Name → List Prototype
+prototypes_of [] names = []
+prototypes_of (signal ∷ signals) [] = []
+prototypes_of (signal ∷ signals) (name ∷ names) = record { name = name; takes = taken signal.kind } ∷ prototypes_of signals names
+
+abbrev pub inputs_in : ImageView → List ImageSignal
+inputs_in image = take image.inputs image.signals
 
 abbrev pub header_of : ImageView → Names → Header
-header_of image names = record { prefix = names.prefix; inputs = names.inputs; outputs = names.outputs; fields = fields_of image.memories names.fields }
+header_of image names = record {
+  prefix = names.prefix;
+  inputs = prototypes_of (inputs_in image) names.inputs;
+  outputs = prototypes_of (outputs_in image) names.outputs;
+  fields = fields_of image.memories names.fields;
+}
+
+-- ---- the whole
 
 abbrev pub unit_of : ImageView → Names → TranslationUnit
 unit_of image names = record {

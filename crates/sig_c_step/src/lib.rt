@@ -4,4 +4,6 @@
 
 mod laws;
 
-pub use laws::{steps_are_laid_out, steps_may_be_written, steps_run_as_images};
+pub use laws::{
+    headers_are_of_images, steps_are_laid_out, steps_may_be_written, steps_run_as_images,
+};

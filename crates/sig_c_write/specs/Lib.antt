@@ -1,1 +1,3 @@
 pub mod Text
+pub mod Given
+pub mod inner

@@ -4,10 +4,9 @@ use Rattle.sig_file.specs.Images.{ImageView}
 use Rattle.sig_file.specs.declared.images.ImageOp.{ImageOp}
 use Rattle.sig_c.specs.SmallC.{Name}
 use Rattle.sig_c.specs.Written.{Scope, scope_of}
-use Rattle.std.specs.List.{list_all}
-use Rattle.sig_c.specs.Names.{begins_with_letter}
+use Rattle.sig_c.specs.Names.{is_file_name}
 use Rattle.sig_c.specs.Layout.{expression_text, lines_text}
-use Rattle.sig_c.specs.File.{AreComments, comment_text, blanks, file_text, is_file_byte}
+use Rattle.sig_c.specs.File.{AreComments, comment_text, blanks, file_text}
 use Rattle.sig_c_step.specs.Names.{Names}
 use Rattle.sig_c_step.specs.Translation.{variables_of, guard_of, doing, causes_of, is_left_out, ignoring, storing, giving, outputs_in, header_of, unit_of, joined}
 
@@ -64,9 +63,8 @@ module _ (image : ImageView) (names : Names) where
 unfoldable pub text_of : ImageView → Names → (include : Name) → Notes → List ℕ
 text_of image names include notes = file_text notes.head include (header_of image names) (unit_of image names) (body_text image names notes.operations)
 
--- the notes may be comments, and the names of the files are words
-pub record AreNotes (image : ImageView) (names : Names) (include : Name) (notes : Notes) : Type 0 where
+-- the notes may be comments, and the file that is included has a name
+pub record AreNotes (include : Name) (notes : Notes) : Type 0 where
   pub head : AreComments notes.head
   pub operations : AreComments notes.operations
-  pub include_bytes : list_all is_file_byte include ≡ true
-  pub prefix : begins_with_letter names.prefix ≡ true
+  pub include_name : is_file_name include ≡ true
