@@ -2,10 +2,9 @@
 
 ghost use Rattle.std.specs.Prelude.{List};
 ghost use Rattle.sig_file.specs.Images.{ImageView, IsImage};
-ghost use Rattle.sig_c.specs.Names.{AreNames as AreFree};
+ghost use Rattle.sig_c.specs.Names.{HasNames};
 ghost use Rattle.sig_c.specs.SmallC.{Name};
 ghost use Rattle.sig_c.specs.Texts.{IsUnitText};
-ghost use Rattle.sig_c.specs.Written.{scope_of};
 ghost use Rattle.sig_c_step.specs.Names.{AreNames, Names};
 ghost use Rattle.sig_c_step.specs.Translation.{header_of, unit_of, variables_of};
 ghost use Rattle.sig_c_write.specs.Text.{AreNotes, Notes, text_of};
@@ -14,6 +13,6 @@ ghost use Rattle.sig_c_write.specs.Text.{AreNotes, Notes, text_of};
 /// step, and of no other one.
 pub fn texts_are_units()
     ensures { (image : ImageView) (names : Names) (include : Name) (notes : Notes) → IsImage image → AreNames image names
-        → AreFree (scope_of (header_of image names) (variables_of image names)) → AreNotes image names include notes
+        → HasNames (header_of image names) (variables_of image names) → AreNotes include notes
         → IsUnitText include (header_of image names) (text_of image names include notes) (unit_of image names) }
 {}
