@@ -1,94 +1,21 @@
 """The two files of a program in C: NAME.h, which tells what there is, and NAME.c, which has the step."""
+from typing import NamedTuple
+
 from sigc.c import c_names, expressions, step_text
 from sigc.c.comments import commented
+from sigc.c.marked_files import filled, functions
 
 WHAT = ("DONE", "EXHAUSTED", "OVERFLOW", "DIVISION_BY_ZERO", "OUT_OF_RANGE")
+INDEX = "INDEX_OUT_OF_RANGE"
+PLACE = "\n    const char *place; /* FILE:LINE:COLUMN, with the indices and the calls around it */"
 NO_STATE = "    uint8_t nothing; /* no signal is asked for its value before */"
 NOTE = """   Types are as narrow as the values{ranges}.
    Operations that always have a value within 64 bits, {count} of those that may fail otherwise, are not tested for it.
 """
-HELPERS = {
-    "add": ("a + b", "b > 0 ? a > INT64_MAX - b : a < INT64_MIN - b", "__builtin_add_overflow(a, b, result)"),
-    "subtract": ("a - b", "b > 0 ? a < INT64_MIN + b : a > INT64_MAX + b", "__builtin_sub_overflow(a, b, result)"),
-    "multiply": (
-        "a * b",
-        "a > 0 ? (b > 0 ? a > INT64_MAX / b : b < INT64_MIN / a) : (b > 0 ? a < INT64_MIN / b : a != 0 && b < INT64_MAX / a)",
-        "__builtin_mul_overflow(a, b, result)",
-    ),
-    "negate": ("-a", "a == INT64_MIN", ""),
-}
 
 # Which writer made a step, and what is proved of it: a line of the first comment of each file.
 SHORT = "The step in {stem}.c is the short one: a script wrote it, and nothing about it is proved."
 LITERAL = "The step in {stem}.c is the literal one: a script wrote it, and nothing about it is proved."
-
-HEADER = """/* {title}, in C: one call of {p}_step does one instant. Written by sigc-c from
-   {path}.
-   {made}
-{note}*/
-#ifndef {guard}
-#define {guard}
-
-#include <stdint.h>
-
-#ifdef __cplusplus
-extern "C" {{
-#endif
-
-/* What an instance is connected to. The struct is yours to define; it is handed on to the functions that you give. */
-typedef struct {p}_context {p}_context;
-
-/* What an instance keeps from one instant to the next. */
-typedef struct {{
-{state}
-}} {p}_state;
-
-/* Why an instant was not done: what there was, at which line and column of the program, and of which signal. */
-enum {{ {what} }};
-typedef struct {{
-    int what;
-    uint32_t line;
-    uint32_t column;
-    const char *signal;
-}} {p}_end;
-
-/* The ends by the numbers that {p}_step answers; number 0 is that of an instant that was done. */
-extern const {p}_end {p}_ends[{count}];
-
-/* Makes a state that of an instance before its first instant. */
-void {p}_init({p}_state *state);
-
-/* Does one instant, and answers 0. Where it cannot be done, it leaves the state as it was, gives no output, and answers
-   the number of the end; the inputs that were asked for before that are used up. */
-int {p}_step({p}_state *state, {p}_context *context);
-{inputs}{outputs}
-#ifdef __cplusplus
-}}
-#endif
-
-#endif
-"""
-
-UNIT = """/* {title}, in C. Written by sigc-c from {path}.
-   {made}
-   Each operation has the line and the column of the program that it comes from.
-{note}*/
-#include "{stem}.h"
-{helpers}
-const {p}_end {p}_ends[{count}] = {{
-{ends}
-}};
-
-void {p}_init({p}_state *state)
-{{
-{init}
-}}
-
-int {p}_step({p}_state *state, {p}_context *context)
-{{
-{body}
-}}
-"""
 
 
 def quoted(text):
@@ -96,10 +23,21 @@ def quoted(text):
     return '"' + text.replace("\\", "\\\\").replace('"', '\\"').replace("??", '?""?') + '"'
 
 
-class Unit:
-    """A program's step as files, whose names begin with `prefix`."""
+class UserEnd(NamedTuple):
+    """What a step may end with: what it is, the user's place as line, column and in words, and the kernel's name of the signal."""
 
-    def __init__(self, step, path, title, made=SHORT):
+    what: str
+    line: int
+    column: int
+    place: str
+    name: str
+
+
+class Unit:
+    """A program's step as files, whose names begin with `prefix`; home leads from the kernel of one that is none to its text."""
+
+    def __init__(self, step, path, title, made=SHORT, home=None):
+        self.home = None if home is None or home.is_kernel else home
         self.step, self.prefix, self.image = step, step.prefix, step.image
         self.stem = c_names.stem(self.prefix)
         self.words = {"p": self.prefix, "path": commented(path), "title": title, "stem": self.stem, "count": len(step.ends) + 1}
@@ -137,10 +75,34 @@ class Unit:
         """The text of NAME.h."""
         what = ", ".join(f"{self.prefix}_{it}" for it in self.whats())
         given = {"guard": f"{self.prefix}_H", "state": self.state(), "what": what, "inputs": self.asked(), "outputs": self.given()}
-        return HEADER.format(**self.words, **given)
+        given |= {"types": self.types(), "place": PLACE if self.has_user_ends() else ""}
+        return filled("unit/unit.h", **self.words, **given)
 
     def whats(self):
-        return WHAT[:5] if self.step.has_ranges() else WHAT[:4]
+        return [*(WHAT[:5] if self.step.has_ranges() else WHAT[:4]), *([INDEX] if self.has_user_ends() else [])]
+
+    def has_user_ends(self):
+        """Whether the ends have places and names of a text that is no kernel."""
+        return self.home is not None
+
+    def kernel_ends(self):
+        """The ends of the step: what each is, its place and its signal in the kernel."""
+        return [(WHAT[it.what], it.line, it.column, it.name) for it in self.step.ends]
+
+    def user_ends(self):
+        """The ends as the user reads them."""
+        for what, line, column, name in self.kernel_ends():
+            at, is_index = self.home.expansion.at(line, column), what == WHAT[3] and self.home.expansion.is_index(line, column)
+            yield UserEnd(INDEX if is_index else what, at.place.line, at.place.col, str(at), name)
+
+    def types(self):
+        """The enumerations of inputs and outputs, each value by its name."""
+        kinds = [it.kind for it in self.home.expansion.inputs + self.home.expansion.outputs] if self.home else []
+        lines = []
+        for it in dict.fromkeys(it for it in kinds if hasattr(it, "values")):
+            values = ", ".join(f"{self.prefix}_{it.name}_{value}" for value in it.values)
+            lines.append(f"\n/* The values of {it.name}. */\nenum {{ {values} }};\n")
+        return "".join(lines)
 
     def state(self):
         """The fields, each with the place and the words of its delay."""
@@ -172,19 +134,19 @@ class Unit:
     def unit(self):
         """The text of NAME.c."""
         given = {"helpers": self.helpers(), "ends": self.ends(), "init": self.init(), "body": self.body()}
-        return UNIT.format(**self.words, **given)
+        return filled("unit/unit.c", **self.words, **given)
 
     def helpers(self):
         """The functions that tell whether a result is within 64 bits."""
-        found = []
-        for name, (result, test, builtin) in HELPERS.items():
-            if name in self.step.helpers:
-                found.append(helper(name, result, test, builtin))
-        return "".join(found)
+        return functions("unit/arithmetic.c", self.step.helpers)
 
     def ends(self):
         rows = [f'    {{{self.prefix}_DONE, 0, 0, ""}}']
-        rows += [f"    {{{self.prefix}_{WHAT[it.what]}, {it.line}, {it.column}, {quoted(it.name)}}}" for it in self.step.ends]
+        if self.has_user_ends():
+            rows = [f'    {{{self.prefix}_DONE, 0, 0, "", ""}}']
+            rows += [f"    {{{self.prefix}_{it.what}, {it.line}, {it.column}, {quoted(self.home.name(it.name))}, {quoted(it.place)}}}" for it in self.user_ends()]
+        else:
+            rows += [f"    {{{self.prefix}_{what}, {line}, {column}, {quoted(name)}}}" for what, line, column, name in self.kernel_ends()]
         return ",\n".join(rows)
 
     def init(self):
@@ -216,11 +178,3 @@ class Unit:
                 else:
                     line += f", {it}"
             yield f"{line};"
-
-
-def helper(name, result, test, builtin):
-    """A function that gives a result where it is within 64 bits, and tells whether it is not."""
-    parameters = "int64_t a, int64_t *result" if name == "negate" else "int64_t a, int64_t b, int64_t *result"
-    plain = f"    if ({test}) {{\n        return 1;\n    }}\n    *result = {result};\n    return 0;\n"
-    body = f"#ifdef __GNUC__\n    return {builtin};\n#else\n{plain}#endif\n" if builtin else plain
-    return f"\nstatic int {name}({parameters})\n{{\n{body}}}\n"

@@ -13,7 +13,7 @@ KEYWORDS = set(
     "co_return co_yield import module final override "
     # what compilers define, and names that the text of a step has
     "linux unix i386 arm mips vax sun hpux NULL EOF errno assert signals slots emit "
-    "state context value add subtract multiply negate divide modulo".split()
+    "state context value result add subtract multiply negate divide modulo".split()
 )
 # Of a process; P_DIVISION_BY_ZERO then has 57 characters.
 LONGEST_PREFIX = 40

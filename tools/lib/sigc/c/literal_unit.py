@@ -33,9 +33,9 @@ class LiteralStep:
 class LiteralUnit(c_files.Unit):
     """A program's literal step as files."""
 
-    def __init__(self, image, source, prefix, path, title):
+    def __init__(self, image, source, prefix, path, title, home=None):
         step = LiteralStep(image, source, prefix)
-        super().__init__(step, path, title, c_files.LITERAL)
+        super().__init__(step, path, title, c_files.LITERAL, home)
         head = [f"{title}, in C. Written by sigc-c from {self.words['path']}.", self.words["made"]]
         self.source_text = step.text([*head, "Each operation has the line and the column of the program that it comes from."])
         self.words["count"] = len(step.ends) + 1
@@ -51,3 +51,10 @@ class LiteralUnit(c_files.Unit):
     def unit(self):
         """The text of NAME.c."""
         return self.source_text
+
+    def has_user_ends(self):
+        """The table of a literal step is the kernel's: main.c has the places of the user's text."""
+        return False
+
+    def kernel_ends(self):
+        return self.step.ends

@@ -48,13 +48,14 @@ NAME = re.compile(r"[A-Za-z][A-Za-z0-9_]*")
 WRITTEN = "Written by sigc-c"
 
 
-def image_of(files, text, called):
-    """The image of a program, as `sigc build` writes it."""
+def image_of(files, text, called, home=None):
+    """The image of a program, as `sigc build` writes it; home leads a refusal to the user's text."""
     path, program = files.written("image", ""), files.written("program.sig", text, called)
     with open(path, "wb") as out, running.Call("build", program, stdout=out) as call:
         line, status = call.ended()
     if status:
-        raise running.Refused(files.renamed(line), status)
+        line = files.renamed(line)
+        raise running.Refused(home.refusal(line) if home else line, status)
     with open(path, "rb") as it:
         return images.image_of(it.read())
 
@@ -149,7 +150,7 @@ class Opened:
             source = {"home": program.home}
             words.range = program.home.ranges(words.range)
         self.text, self.called = program.text, words.program
-        self.image = image_of(files, program.text, words.program)
+        self.image = image_of(files, program.text, words.program, source.get("home"))
         self.prefix, self.title = prefix_of(words, program.text), syntax.read(program.text).processes[0].name.text
         self.source = sources.Source(program.text, self.image, **source)
 
@@ -158,11 +159,20 @@ def unit_of(opened, words):
     """The files of a program, with the step that was asked for."""
     if words.literal:
         try:
-            return literal_unit.LiteralUnit(opened.image, opened.source, opened.prefix, opened.called, opened.title)
+            return literal_unit.LiteralUnit(opened.image, opened.source, opened.prefix, opened.called, opened.title, opened.source.home)
         except literal_guards.TooLong:
             raise running.Refused(f"{opened.called}: the literal step would have more than {literal_guards.MOST_BYTES} bytes; leave --literal out") from None
     steps, ranges = steps_of(words, opened.image)
-    return c_files.Unit(step_text.written(steps, opened.source, opened.prefix, ranges), opened.called, opened.title)
+    return c_files.Unit(step_text.written(steps, opened.source, opened.prefix, ranges), opened.called, opened.title, home=opened.source.home)
+
+
+def main_of(unit):
+    """The text of main.c; of a program that is no kernel with the user's names, values and places."""
+    if unit.home is None:
+        return main_text.main_text(unit)
+    from sigc.c import users_main
+
+    return main_text.main_text(unit, users_main.Users(unit.home, unit))
 
 
 def look_at_names(unit, is_literal):
@@ -197,7 +207,7 @@ def main():
         if words.clusters:
             return put_clusters(words, opened, code_of(files, opened.text, opened.called))
         unit = unit_of(opened, words)
-        texts = {f"{unit.stem}.h": unit.header(), f"{unit.stem}.c": unit.unit(), "main.c": main_text.main_text(unit)}
+        texts = {f"{unit.stem}.h": unit.header(), f"{unit.stem}.c": unit.unit(), "main.c": main_of(unit)}
         refuse_others(words.folder, texts)
         look_at_names(unit, words.literal)
     os.makedirs(words.folder, exist_ok=True)

@@ -1,4 +1,3 @@
-
 /* Each of these gives a result where that is within 64 bits, and returns whether it is not. */
 
 static inline int add(int64_t a, int64_t b, int64_t *result)

@@ -123,12 +123,24 @@ void link_return(int stream, uint64_t allowed, int is_end, uint64_t word)
     }
 }
 
+/* Whether both topics of a stream have found the other end. */
+static int is_matched(const Link *it)
+{
+    dds_publication_matched_status_t written = {0};
+    dds_subscription_matched_status_t read = {0};
+    dds_get_publication_matched_status(it->writer, &written);
+    dds_get_subscription_matched_status(it->reader, &read);
+    return written.current_count > 0 && read.current_count > 0;
+}
+
+/* What came on a stream. A writer hears of room only once its items find the reader too: those that are written before are lost, but for
+   the last one. The reader says it once more until the first item has come. */
 static void take_sample(Link *link, const void *sample)
 {
     if (link->is_reader_here) {
         const sigc_link_Items *it = sample;
         arrived(link->stream, it->first, it->values._buffer, it->values._length, it->is_end, it->word);
-    } else {
+    } else if (link->is_found || (link->is_found = is_matched(link)) || ((const sigc_link_Room *)sample)->is_end) {
         const sigc_link_Room *it = sample;
         returned(link->stream, it->allowed, it->is_end, it->word);
     }
@@ -158,16 +170,6 @@ int link_poll(void)
         is_done |= take_all(&links[i]);
     }
     return is_done;
-}
-
-/* Whether both topics of a stream have found the other end. */
-static int is_matched(const Link *it)
-{
-    dds_publication_matched_status_t written = {0};
-    dds_subscription_matched_status_t read = {0};
-    dds_get_publication_matched_status(it->writer, &written);
-    dds_get_subscription_matched_status(it->reader, &read);
-    return written.current_count > 0 && read.current_count > 0;
 }
 
 /* Looks after a stream: says how much room there is until the first item comes, and whether the partner is lost. */
@@ -204,9 +206,10 @@ void link_rest(long microseconds)
     dds_waitset_wait(waitset, found, 1, DDS_USECS(microseconds));
 }
 
-int link_says(uint64_t *word)
+int link_says(uint64_t *word, Fate fates[ACTORS])
 {
     (void)word;
+    (void)fates;
     return COLLECTOR < 0 || is_here[COLLECTOR];
 }
 

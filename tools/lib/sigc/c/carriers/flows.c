@@ -6,7 +6,7 @@
 
 #include "flows.h"
 
-enum { MOST_BYTES = 67108864, MOST_VALUES = 4000000, LEAST_DIGITS = 18, DIGITS = 24 };
+enum { READ = 65536, MOST_BYTES = 67108864, MOST_VALUES = 4000000, LEAST_DIGITS = 18, DIGITS = 24 };
 enum { RIGHT, BAD_VALUE, OUT_OF_RANGE };
 
 /* The values of an input, with how many were taken of how many. One cluster takes them, so none shares its line of a cache. */
@@ -104,6 +104,16 @@ int take(Context *it, int input, int64_t *value)
         return 0;
     }
     *value = flow->values[flow->taken++];
+    return 1;
+}
+
+int take_next(int input, size_t *taken, int64_t *value)
+{
+    const Flow *flow = &flows[input];
+    if (*taken == flow->count) {
+        return 0;
+    }
+    *value = flow->values[(*taken)++];
     return 1;
 }
 
@@ -317,7 +327,7 @@ static int read_flows(const char *path, const char *text, size_t size)
 int read_flows_of(const char *path)
 {
     FILE *file = fopen(path, "rb");
-    size_t room = PIECE, size = 0, got;
+    size_t room = READ, size = 0, got;
     char *text = malloc(room);
     int status;
     if (file == NULL) {
@@ -399,24 +409,4 @@ uint64_t word_of(unsigned long instant, int number)
 unsigned long instant_of(uint64_t word)
 {
     return (unsigned long)(word >> 32);
-}
-
-int say_end(uint64_t word, unsigned long limit, int has_failed)
-{
-    const End *end = &ENDS[word == NO_WORD ? 0 : word & UINT32_MAX];
-    unsigned long instants = instant_of(word) - 1;
-    if (has_failed) {
-        fprintf(stderr, "error: write failed\n");
-        return 6;
-    }
-    if (word == NO_WORD) {
-        fprintf(stderr, "end: limit after %lu instants\n", limit);
-        return 0;
-    }
-    if (end->what == END_EXHAUSTED) {
-        fprintf(stderr, "end: input %s exhausted after %lu instants\n", end->signal, instants);
-        return 0;
-    }
-    fprintf(stderr, "end: %s at %lu:%lu after %lu instants\n", end->what == END_OVERFLOW ? "overflow" : "division by zero", (unsigned long)end->line, (unsigned long)end->column, instants);
-    return 3;
 }

@@ -135,9 +135,14 @@ static int begin_links(void)
     return 0;
 }
 
-int link_says(uint64_t *word)
+int link_says(uint64_t *word, Fate fates[ACTORS])
 {
     uint64_t own = *word;
+    if (IS_SYSTEM) {
+        static Fate sum[ACTORS];
+        MPI_Allreduce(fates, sum, 3 * ACTORS, MPI_INT64_T, MPI_SUM, MPI_COMM_WORLD);
+        memcpy(fates, sum, sizeof sum);
+    }
     if (COLLECTOR >= 0) {
         return is_here[COLLECTOR];
     }

@@ -11,8 +11,9 @@
 #include <time.h>
 
 #include "process.h"
+#include "touching.h"
 
-enum { CAPACITY = 16384, MOST_CAPACITY = 65536, INSTANTS = 1000000, MOST_INSTANTS = 1000000000, DEADLINE = 60, MOST_DEADLINE = 86400 };
+enum { MOST_CAPACITY = 65536, INSTANTS = 1000000, MOST_INSTANTS = 1000000000, DEADLINE = 60, MOST_DEADLINE = 86400 };
 /* How often a process looks for something to do before it sleeps, for how many microseconds at first and at most; how many
    instants an actor does at a turn. */
 enum { SPINS = 50, LEAST_REST = 20, MOST_REST = 200, TURN = 512 };
@@ -33,6 +34,7 @@ typedef struct {
     State state;
     unsigned long instant;
     int is_over, waits_for;
+    Fate fate;
     Context context;
 } Actor;
 
@@ -183,8 +185,9 @@ int is_closed(int stream)
 
 static void publish(int actor)
 {
-    int i;
-    for (i = 0; i < STREAMS; i++) {
+    int at;
+    for (at = touching_at[actor]; at < touching_at[actor + 1]; at++) {
+        int i = touching[at];
         if (STREAM_ENDS[i].writer == actor && !streams[i].is_reader_here) {
             send(i);
         } else if (STREAM_ENDS[i].reader == actor && !streams[i].is_writer_here) {
@@ -194,20 +197,26 @@ static void publish(int actor)
 }
 
 /* Ends an actor, and says so on its streams, both ways. */
-static void end(int actor)
+static void end(int actor, int what, int number)
 {
-    int i;
+    Fate *fate = &actors[actor]->fate;
+    int at;
+    fate->what = what;
+    fate->number = number;
+    fate->instants = (int64_t)actors[actor]->instant - 1;
     actors[actor]->is_over = 1;
     left--;
     publish(actor);
-    for (i = 0; i < STREAMS; i++) {
+    for (at = touching_at[actor]; at < touching_at[actor + 1]; at++) {
+        int i = touching[at];
         Stream *it = &streams[i];
         if (STREAM_ENDS[i].writer == actor) {
             it->is_writer_over = 1;
             if (!it->is_reader_here) {
                 link_send(i, it->sent, NULL, 0, 1, least);
             }
-        } else if (STREAM_ENDS[i].reader == actor) {
+        }
+        if (STREAM_ENDS[i].reader == actor) {
             it->is_reader_over = 1;
             if (!it->is_writer_here) {
                 link_return(i, it->head + settings.capacity, 1, least);
@@ -221,10 +230,10 @@ static void end(int actor)
 static int act(int actor)
 {
     Actor *it = actors[actor];
-    int i, number = 0, place = it->state.place, is_done = 0;
+    int i, number = 0, place = it->state.place, served = it->context.served, is_done = 0;
     for (i = 0; i < TURN && number == 0; i++) {
-        if (it->instant > settings.limit || instant_of(least) < it->instant) {
-            end(actor);
+        if (it->instant > settings.limit || (IS_SYSTEM ? least <= LOST : instant_of(least) < it->instant)) {
+            end(actor, AT_LIMIT, 0);
             return 1;
         }
         number = step(actor, &it->state, &it->context);
@@ -236,39 +245,32 @@ static int act(int actor)
             is_done = 1;
         }
     }
-    if (number > 0) {
+    if (number > 0 && !IS_SYSTEM) {
         lower(word_of(it->instant, number));
     }
     if (number > 0 || it->context.is_parted) {
-        end(actor);
+        end(actor, number > 0 ? AT_FAULT : WANTS, number > 0 ? number : it->context.wanted);
         return 1;
     }
     publish(actor);
-    return is_done || it->state.place != place;
+    return is_done || it->state.place != place || it->context.served != served;
 }
 
 /* Loss. */
-
-static const char *name_of(int actor, char *room, size_t size)
-{
-    if (actor == COLLECTOR) {
-        return "the collector";
-    }
-    snprintf(room, size, "cluster %d", actor);
-    return room;
-}
 
 void lose(int stream, const char *why)
 {
     int other = streams[stream].is_writer_here ? STREAM_ENDS[stream].reader : STREAM_ENDS[stream].writer;
     int own = streams[stream].is_writer_here ? STREAM_ENDS[stream].writer : STREAM_ENDS[stream].reader;
-    char room[32], own_room[32];
+    char room[512], own_room[512];
     if (least <= LOST || is_closed(stream)) {
         return;
     }
     lower(LOST);
     is_loss_said = 1;
-    fprintf(stderr, "error: %s: %s, seen by %s", name_of(other, room, sizeof room), why, name_of(own, own_room, sizeof own_room));
+    name_actor(other, room, sizeof room);
+    name_actor(own, own_room, sizeof own_room);
+    fprintf(stderr, "error: %s: %s, seen by %s", room, why, own_room);
     fprintf(stderr, " after %lu instants\n", actors[own]->instant - 1);
 }
 
@@ -296,7 +298,7 @@ static void end_all(void)
     int i;
     for (i = 0; i < ACTORS; i++) {
         if (is_here[i] && !actors[i]->is_over) {
-            end(i);
+            end(i, WANTS, actors[i]->context.wanted);
         }
     }
 }
@@ -367,6 +369,7 @@ int begin_process(unsigned long first_room)
     while (size < settings.capacity) {
         size *= 2;
     }
+    list_streams();
     mask = size - 1;
     chunk = settings.capacity / 4 < 1 ? 1 : settings.capacity / 4 > CHUNK ? CHUNK : settings.capacity / 4;
     for (i = 0; i < STREAMS && status == 0; i++) {
@@ -381,11 +384,13 @@ int begin_process(unsigned long first_room)
 /* The status at the end, and its line where this process is to say it. */
 static int finish(void)
 {
+    static Fate fates[ACTORS];
     int i, has_failed = 0;
     for (i = 0; i < ACTORS; i++) {
         if (is_here[i]) {
             flush(&actors[i]->context);
             has_failed |= actors[i]->context.has_failed;
+            fates[i] = actors[i]->fate;
         }
     }
     if (least == LOST && !is_loss_said) {
@@ -394,7 +399,7 @@ static int finish(void)
     if (least == LOST) {
         return 11;
     }
-    return link_says(&least) ? say_end(least, settings.limit, has_failed || least == WRITE_FAILED) : 0;
+    return link_says(&least, fates) ? say_run(least, fates, settings.limit, has_failed || least == WRITE_FAILED) : 0;
 }
 
 static int go_round(void)

@@ -56,8 +56,9 @@ int link_poll(void);
 /* Of the carrier: sleeps until something may have come, or for so many microseconds. */
 void link_rest(long microseconds);
 
-/* Of the carrier: whether this process says how the run has ended, with the least word, which may be lowered to that of all processes. */
-int link_says(uint64_t *word);
+/* Of the carrier: whether this process says how the run has ended, with the least word, which may be lowered to that of all processes,
+   and how each actor has ended, as far as the processes tell each other. */
+int link_says(uint64_t *word, Fate fates[ACTORS]);
 
 /* Seconds, from any begin. */
 double now(void);

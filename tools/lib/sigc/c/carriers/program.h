@@ -16,7 +16,9 @@ typedef @p@_end End;
 enum { WAITING = @p@_WAITING, END_EXHAUSTED = @p@_EXHAUSTED, END_OVERFLOW = @p@_OVERFLOW };
 
 /* Actors are the clusters and, behind them, the collector where there is one. With IS_LOCAL each cluster gives its outputs itself. */
-enum { CLUSTERS = @clusters@, ACTORS = @actors@, COLLECTOR = @collector@, STREAMS = @streams@, INPUTS = @inputs@, IS_LOCAL = @is_local@ };
+enum { CLUSTERS = @clusters@, ACTORS = @actors@, COLLECTOR = @collector@, STREAMS = @streams@, INPUTS = @inputs@, IS_LOCAL = @is_local@, IS_SYSTEM = 0 };
+/* How many items a stream holds where nothing is said, and how many bytes of outputs an actor keeps. */
+enum { CAPACITY = 16384, MOST_INPUTS = 0, PIECE = 65536 };
 enum { INTEGER, BOOLEAN, EVENT };
 
 /* The state of any actor. */

@@ -7,6 +7,9 @@
    its turn is over and when it ends. A thread looks a few times for something to do, and then sleeps. An actor that waits
    or ends wakes the threads at the other ends of its streams; one that can go on does so where half a ring is to be had.
 
+   In a system actors may wait for each other for ever. Then the last thread that falls asleep finds all others asleep, and wakes them
+   to end. A thread that is woken is awake from the word of who wakes it on, so no word is on its way then.
+
    Why no thread sleeps for ever: a thread says that it rests, and then looks once more; a partner publishes, and then looks
    whether the thread rests. All four are sequentially consistent, so one of both sees the other. */
 #define _GNU_SOURCE
@@ -19,8 +22,9 @@
 
 #include "deal.h"
 #include "flows.h"
+#include "touching.h"
 
-enum { CAPACITY = 16384, MOST_CAPACITY = 65536, INSTANTS = 1000000, MOST_INSTANTS = 1000000000, MOST_THREADS = 64, MOST_CPUS = 1024 };
+enum { MOST_CAPACITY = 65536, INSTANTS = 1000000, MOST_INSTANTS = 1000000000, MOST_THREADS = 64, MOST_CPUS = 1024 };
 /* How often a thread looks for something to do before it sleeps; how many instants an actor does at a turn; how many items
    are published at once at most. */
 enum { SPINS = 50, TURN = 128, CHUNK = 64, LINE = 64 };
@@ -46,11 +50,13 @@ typedef struct {
     _Alignas(LINE) State state;
     unsigned long instant;
     int is_over;
+    Fate fate;
     Context context;
 } Actor;
 
 typedef struct {
     _Alignas(LINE) atomic_int is_resting;
+    int is_asleep;
     pthread_mutex_t mutex;
     pthread_cond_t wakes;
     pthread_t thread;
@@ -61,13 +67,29 @@ typedef struct {
 static Stream streams[STREAMS + 1];
 static Actor *actors;
 static Thread threads[MOST_THREADS];
-static int thread_of[ACTORS];
+static int thread_of[ACTORS], count_of_threads;
 static size_t capacity = CAPACITY, mask, chunk;
 static unsigned long limit = INSTANTS;
 /* The least word of an actor that has failed; that of an instant 0 where a write has. */
 static _Atomic uint64_t least = NO_WORD;
+/* How many threads have not ended, and how many of these are asleep; whether all were. */
+static pthread_mutex_t count_mutex = PTHREAD_MUTEX_INITIALIZER;
+static int alive, asleep;
+static atomic_int is_stuck;
 
 /* Streams. */
+
+/* Counts a thread that falls asleep, is woken or ends. Whether all that are left are asleep. */
+static int count_threads(int of_alive, int of_asleep)
+{
+    int are_all_asleep;
+    pthread_mutex_lock(&count_mutex);
+    alive += of_alive;
+    asleep += of_asleep;
+    are_all_asleep = asleep == alive && alive != 0;
+    pthread_mutex_unlock(&count_mutex);
+    return are_all_asleep;
+}
 
 static void wake(int thread)
 {
@@ -75,6 +97,10 @@ static void wake(int thread)
     if (atomic_load(&it->is_resting)) {
         pthread_mutex_lock(&it->mutex);
         atomic_store(&it->is_resting, 0);
+        if (it->is_asleep) {
+            it->is_asleep = 0;
+            count_threads(0, -1);
+        }
         pthread_cond_signal(&it->wakes);
         pthread_mutex_unlock(&it->mutex);
     }
@@ -171,11 +197,13 @@ OFTEN int GET(Context *context, int stream, int64_t *item)
 
 static void publish(int actor, int is_waiting)
 {
-    int i;
-    for (i = 0; i < STREAMS; i++) {
+    int at;
+    for (at = touching_at[actor]; at < touching_at[actor + 1]; at++) {
+        int i = touching[at];
         if (STREAM_ENDS[i].writer == actor) {
             publish_tail(&streams[i], is_waiting);
-        } else if (STREAM_ENDS[i].reader == actor) {
+        }
+        if (STREAM_ENDS[i].reader == actor) {
             publish_head(&streams[i], is_waiting);
         }
     }
@@ -189,20 +217,33 @@ static void lower(uint64_t word)
 }
 
 /* Ends an actor, and says so on its streams, both ways. */
-static void end(int actor)
+static void end(int actor, int what, int number)
 {
-    int i;
-    actors[actor].is_over = 1;
+    Actor *it = &actors[actor];
+    int at;
+    it->is_over = 1;
+    it->fate.what = what;
+    it->fate.number = number;
+    it->fate.instants = (int64_t)it->instant - 1;
     publish(actor, 1);
-    for (i = 0; i < STREAMS; i++) {
+    for (at = touching_at[actor]; at < touching_at[actor + 1]; at++) {
+        int i = touching[at];
         if (STREAM_ENDS[i].writer == actor) {
             atomic_store(&streams[i].is_writer_over, 1);
             wake(streams[i].reader);
-        } else if (STREAM_ENDS[i].reader == actor) {
+        }
+        if (STREAM_ENDS[i].reader == actor) {
             atomic_store(&streams[i].is_reader_over, 1);
             wake(streams[i].writer);
         }
     }
+}
+
+/* Whether the run is over for an actor at an instant: an earlier one has failed, or a write. */
+static int is_over_at(unsigned long instant)
+{
+    uint64_t word = atomic_load_explicit(&least, memory_order_relaxed);
+    return IS_SYSTEM ? word != NO_WORD : instant_of(word) < instant;
 }
 
 /* A turn of an actor: up to so many instants, until it waits or ends. Whether it did something. An actor that waits for a
@@ -210,10 +251,14 @@ static void end(int actor)
 static int act(int actor)
 {
     Actor *it = &actors[actor];
-    int i, number = 0, place = it->state.place, is_done = 0;
+    int i, number = 0, place = it->state.place, served = it->context.served, is_done = 0;
+    if (IS_SYSTEM && atomic_load(&is_stuck)) {
+        end(actor, WANTS, it->context.wanted);
+        return 1;
+    }
     for (i = 0; i < TURN && number == 0; i++) {
-        if (it->instant > limit || instant_of(atomic_load_explicit(&least, memory_order_relaxed)) < it->instant) {
-            end(actor);
+        if (it->instant > limit || is_over_at(it->instant)) {
+            end(actor, AT_LIMIT, 0);
             return 1;
         }
         number = step(actor, &it->state, &it->context);
@@ -225,15 +270,15 @@ static int act(int actor)
             is_done = 1;
         }
     }
-    if (number > 0) {
+    if (number > 0 && !IS_SYSTEM) {
         lower(word_of(it->instant, number));
     }
     if (number > 0 || it->context.is_parted) {
-        end(actor);
+        end(actor, number > 0 ? AT_FAULT : WANTS, number > 0 ? number : it->context.wanted);
         return 1;
     }
     publish(actor, number == WAITING);
-    return is_done || it->state.place != place;
+    return is_done || it->state.place != place || it->context.served != served;
 }
 
 /* Threads. */
@@ -252,13 +297,31 @@ static int go_round(Thread *it)
     return is_done;
 }
 
+/* Ends all actors that are left: none can go on. */
+static void end_all(void)
+{
+    int i;
+    atomic_store(&is_stuck, 1);
+    for (i = 0; i < count_of_threads; i++) {
+        wake(i);
+    }
+}
+
 static void rest(Thread *it)
 {
+    int are_all_asleep = 0;
     pthread_mutex_lock(&it->mutex);
-    while (atomic_load(&it->is_resting)) {
+    if (atomic_load(&it->is_resting)) {
+        it->is_asleep = 1;
+        are_all_asleep = count_threads(0, 1);
+    }
+    while (atomic_load(&it->is_resting) && !are_all_asleep) {
         pthread_cond_wait(&it->wakes, &it->mutex);
     }
     pthread_mutex_unlock(&it->mutex);
+    if (are_all_asleep) {
+        end_all();
+    }
 }
 
 static void bind_to(int cpu)
@@ -288,6 +351,9 @@ static void *serve(void *words)
             }
             spins = 0;
         }
+    }
+    if (count_threads(-1, 0)) {
+        end_all();
     }
     return NULL;
 }
@@ -350,6 +416,7 @@ static int begin_actors(const char *folder)
 static int run(int count)
 {
     int i, started = 1;
+    alive = count_of_threads = count;
     for (i = 0; i < count; i++) {
         pthread_mutex_init(&threads[i].mutex, NULL);
         pthread_cond_init(&threads[i].wakes, NULL);
@@ -395,13 +462,15 @@ static int default_count(void)
 
 static int finish(void)
 {
+    static Fate fates[ACTORS];
     uint64_t word = atomic_load(&least);
     int i, has_failed = instant_of(word) == 0;
     for (i = 0; i < ACTORS; i++) {
         flush(&actors[i].context);
         has_failed |= actors[i].context.has_failed;
+        fates[i] = actors[i].fate;
     }
-    return say_end(word, limit, has_failed);
+    return say_run(word, fates, limit, has_failed);
 }
 
 int main(int count, char **words)
@@ -436,6 +505,7 @@ int main(int count, char **words)
     }
     number = number > ACTORS ? ACTORS : number;
     deal_to(number);
+    list_streams();
     status = begin_streams() ? begin_actors(folder) : refuse_memory();
     if (status == 0) {
         run(number);
