@@ -8,15 +8,16 @@ CARRIERS = {
     "dds": (("process.h", "process.c", "dds.c", "link.idl", "loopback.xml"), "dds.build", "dds.run"),
 }
 SCRIPTS = ("build", "run")
+SHARED = ("flows.h", "flows.c", "deal.h", "touching.h")
 
 
 def files_of(unit, carrier):
     """The files of a program with its carrier: their texts by their names."""
     found = {f"{unit.stem}_clusters.h": unit.header(), f"{unit.stem}_clusters.c": unit.unit(), "program.h": unit.known(), "program.c": unit.glue()}
     names, build, run = CARRIERS[carrier]
-    for name in ("flows.h", "flows.c", "deal.h", *names):
+    for name in (*SHARED, "end_line.c", *names):
         found[name] = cluster_files.text_of(name)
-    found["build"] = cluster_files.text_of(build, **unit.words)
+    found["build"] = cluster_files.text_of(build, **unit.words, units=f"{unit.stem}_clusters.c", end_file="end_line.c")
     if run:
         found["run"] = cluster_files.text_of(run, **unit.words, actors=len(unit.steps), clusters=len(unit.clusters))
     return found

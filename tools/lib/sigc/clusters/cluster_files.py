@@ -2,25 +2,22 @@
 
 Their texts stand in sigc/c/carriers as files of C, with marks like @title@ where a program's own words come.
 """
-import os
 import re
 
 from sigc.c import c_files, c_names
+from sigc.c.marked_files import filled, functions
 from sigc.clusters.cluster_steps import Cluster
 from sigc.clusters.collector_step import Collector
 
-FOLDER = f"{os.path.dirname(os.path.dirname(os.path.realpath(__file__)))}/c/carriers"
 WIDTH = 118
 INDENT = "    "
 # what an output costs the collector, as operations of a cluster, and what any actor costs
 OUTPUT, ACTOR = 8, 4
 
 
-def text_of(file, **words):
+def text_of(file: str, **words: object) -> str:
     """The text of a file in sigc/c/carriers, with its marks filled in."""
-    with open(f"{FOLDER}/{file}", encoding="ascii") as it:
-        text = it.read()
-    return re.sub(r"@([a-z_]+)@", lambda mark: str(words[mark[1]]), text) if words else text
+    return filled(f"carriers/{file}", **words)
 
 
 class Unit:
@@ -86,7 +83,7 @@ class Unit:
         rows += [f"{INDENT}{{{self.prefix}_{it.what}, {it.line}, {it.column}, {c_files.quoted(it.name)}}}" for it in self.program.fates.ends]
         helpers = set().union(*(it.helpers for it in self.clusters))
         steps = "".join(map(self.step, self.steps)).rstrip("\n")
-        return text_of("clusters.c", **self.words, helpers=arithmetic(helpers), ends=len(rows), end_rows=",\n".join(rows), steps=steps)
+        return text_of("clusters.c", **self.words, helpers=functions("carriers/arithmetic.c", helpers), ends=len(rows), end_rows=",\n".join(rows), steps=steps)
 
     def step(self, it):
         init = "\n".join(f"{INDENT}state->{name} = {first};" for name, (_, first) in it.state().items())
@@ -146,14 +143,6 @@ def own_name(step, collector):
 
 def function(head, lines):
     return f"\n{head}\n{{\n" + "".join(f"{INDENT}{it}\n" for it in lines) + "}\n"
-
-
-def arithmetic(helpers):
-    """The functions of arithmetic.c that are used."""
-    if not helpers:
-        return ""
-    head, *functions = text_of("arithmetic.c").split("\nstatic inline ")
-    return head + "".join(f"\nstatic inline {it}" for it in functions if re.match(r"int (\w+)", it)[1] in helpers)
 
 
 def body(step):

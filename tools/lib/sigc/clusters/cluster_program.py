@@ -12,11 +12,15 @@ class Program:
     def __init__(self, image, lines, source, prefix, is_local=False, is_barrier=False):
         self.image, self.source, self.prefix, self.is_local = image, source, prefix, is_local
         self.operations = [Operation(number, it.kind, it.guard, it.line, it.column, None if it.kind == "Store" else it.fields[0], it.fields) for number, it in enumerate(image.operations)]
-        self.actors = actors.Actors(lines, is_barrier or not is_local, is_barrier)
+        self.actors = self.actors_of(lines, is_barrier)
         self.fates = fates.Fates(self.operations, source, [it.name for it in image.signals])
         self.reached, self.asked, self.sizes = {}, {}, [1, 1]
         for it in image.nodes:
             self.sizes.append(self.sizes[it.low] + self.sizes[it.high] + 1)
+
+    def actors_of(self, lines, is_barrier):
+        """Who does what, by the lines of a code."""
+        return actors.Actors(lines, is_barrier or not self.is_local, is_barrier)
 
     @property
     def has_collector(self):
