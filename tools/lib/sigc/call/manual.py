@@ -63,14 +63,14 @@ def code(lines, at, found):
     return at + is_fence
 
 
-def man_page(formats):
+def man_page(formats: str, version: str) -> str:
     """The man page sigc(1), of the page docs/formats.md."""
-    head = '.TH SIGC 1\n.SH NAME\nsigc \\- compiles, judges and runs programs in SIGNAL\n.SH SYNOPSIS\n.nf\n'
+    head = f'.TH SIGC 1 "" "sigc {version}"\n.SH NAME\nsigc \\- compiles, judges and runs programs in SIGNAL\n.SH SYNOPSIS\n.nf\n'
     head += "".join(escaped(usage(it)) + "\n" for it in COMMANDS) + ".fi\n.SH COMMANDS\n"
     head += "".join(f".TP\n\\fB{it}\\fR\n{escaped(command.does)}\n" for it, command in COMMANDS.items())
     head += ".SH STATUS\n" + escaped(STATUSES) + "\n"
-    see = ".SH SEE ALSO\n" + escaped("The scripts sigc-caret, sigc-why, sigc-header and others tell their words with --help.\n")
-    see += escaped("The documents stand in lib/sigc/docs.\n")
+    see = ".SH SEE ALSO\n\\fBsigc\\-caret\\fR(1), \\fBsigc\\-why\\fR(1), \\fBsigc\\-run\\fR(1), \\fBsigc\\-c\\fR(1)\n.PP\n"
+    see += escaped("The documents are in lib/sigc/docs.\n")
     return head + ".SH DESCRIPTION\n" + troff(formats.partition("\n")[2].lstrip("\n")) + see
 
 
@@ -91,10 +91,20 @@ def commands_of(usage_text):
     return found[1].split(",") if found else []
 
 
+def helps(folder: str, scripts: list[str]) -> dict[str, str]:
+    """What each script of a folder prints with --help."""
+    with ThreadPoolExecutor() as pool:
+        return dict(zip(scripts, pool.map(help_of, ([f"{folder}/{name}"] for name in scripts))))
+
+
+def help_of(words: list[str]) -> str:
+    """What a script, or a command of it, prints with --help."""
+    return subprocess.run([sys.executable, *words, "--help"], capture_output=True, text=True, stdin=subprocess.DEVNULL).stdout
+
+
 def told(words):
-    """The usage that a script tells with --help."""
-    said = subprocess.run([sys.executable, *words, "--help"], capture_output=True, text=True, stdin=subprocess.DEVNULL).stdout
-    return said.partition("\n\n")[0]
+    """The usage that a script prints with --help."""
+    return help_of(words).partition("\n\n")[0]
 
 
 def all_flags(flags):

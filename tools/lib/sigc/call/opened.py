@@ -81,16 +81,9 @@ class Opened:
         """An expression over the user's signals, as `L[0] = #red`, as one over those of the kernel."""
         if self.is_kernel:
             return text
-        names = "|".join(re.escape(it) for it in sorted(self.expansion.kernel_names, key=len, reverse=True))
-        text = re.sub(rf"(?<![\w#.])(?:{names})(?![\w\[.#])", lambda it: self.kernel_name(it[0]), text)
-        return re.sub(r"#([A-Za-z]\w*)", lambda it: self.value_named(it[1]), text)
+        from sigc.call.user_expressions import UserExpressions
 
-    def value_named(self, name):
-        """The number of a value of an enumeration."""
-        found = {values.index(f"#{name}") for values in self.states().values() if f"#{name}" in values}
-        if len(found) != 1:
-            raise Refused(f"#{name} is {'a value of several types' if found else 'no value of an enumeration'}", 2)
-        return str(found.pop())
+        return UserExpressions(self.expansion).kernel(text)
 
     def states(self):
         """The names of the values of enumerations, by the kernel's signals."""

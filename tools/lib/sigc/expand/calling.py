@@ -43,7 +43,24 @@ def placed(at: At | None, word: str, text: str, lines=()) -> str:
 
 def refused(found: Refused) -> str:
     """A refusal of the front end."""
-    return placed(found.at, "error", found.text, [*found.advice, "see docs/signal.md"])
+    return placed(found.at, "error", found.text, [*found.advice, f"see docs/signal.md{section_of(found.text)}"])
+
+
+# The section of docs/signal.md that is about a refusal, by what its text begins with.
+SECTIONS = {
+    "sizes differ": "arrays", "index ": "arrays", "an array": "arrays", "this is no array": "arrays", "`[?]`": "arrays", "an iteration": "arrays", "a left side": "arrays",
+    "a constant has no clock": "instants-clocks-and-constants", "this never comes": "instants-clocks-and-constants", "constant ": "constants-types-and-parameters",
+    "a constant outside": "instants-clocks-and-constants", "unknown process": "processes-and-calls", "bad call": "processes-and-calls", "recursive call": "processes-and-calls",
+    "unknown state": "automata", "state ": "automata", "there is no module": "modules", "modules use": "modules", "no process to run": "modules",
+    "bad pragma": "inputs-that-come-by-themselves", "this `else`": "case", "a value of a case": "case", "this value stands twice": "case", "a case of": "case",
+    "unknown value": "enumerations", "types clash": "enumerations", "#": "enumerations", "more than 512 signals": "size", "this assert": "claims", "this assume": "claims",
+    "a process without a body": "what-is-refused", "pragma ": "what-is-refused", "syntax": "the-text", "unexpected byte": "the-text", "a delay": "delays-and-windows", "a window": "delays-and-windows",
+}
+
+
+def section_of(text: str) -> str:
+    """The anchor of a section; nothing where none is about this refusal alone."""
+    return next((f"#{anchor}" for begin, anchor in SECTIONS.items() if text.startswith(begin)), "")
 
 
 class Led:
@@ -133,7 +150,7 @@ class Led:
 
 def stops_alike(found: Refused, path: str, program: str) -> bool:
     """Whether sigc's own reader stops where this one does: then the text is a kernel that has a mistake, and sigc's hints help more."""
-    if found.text != "syntax" or not found.at:
+    if found.text != "syntax" or not found.at or len(found.advice) > 1:
         return False
     place = found.at.place
     said = subprocess.run([path, "check", program], capture_output=True, text=True, stdin=subprocess.DEVNULL, errors="replace")

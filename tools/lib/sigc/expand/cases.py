@@ -110,7 +110,15 @@ def branches(bodies: list, scope: Scope, at: At, resets: list | None = None) -> 
         scopes.append(inner)
     for name, parts in results.items():
         merge(name, parts, scope, at)
+        tell_absent(name, bodies, scope, at)
     return scopes
+
+
+def tell_absent(name: str, bodies: list, scope: Scope, at: At) -> None:
+    """Reports the branches that do not define a signal which others define."""
+    for body, _, _ in bodies:
+        if name not in defined_in(body):
+            scope.unit.told(scope.at(body.at) if hasattr(body, "at") else at, f"{name} is absent where this branch is taken: no equation here defines it")
 
 
 def branch_body(body, inner: Scope) -> None:

@@ -135,13 +135,14 @@ def signal(declared: Declared, scope: Scope, role: str, names=None) -> Signal:
 def element_names(name: str, kind: object, sizes: tuple, at: At, role: str, scope: Scope):
     """New signals of the kernel for the elements of a signal."""
     unit, (prefix, shown) = scope.unit, scope.prefix
+    turns = "".join(scope.turns.split())
 
     def made(indices: tuple):
         if len(indices) < len(sizes):
             return [made((*indices, number)) for number in range(sizes[len(indices)])]
         is_own = not prefix and not indices and not (scope.parent and scope.parent.prefix != ("", ""))
         wanted = prefix + name + "".join(f"_{it}" for it in indices)
-        told = shown + name + "".join(f"[{it}]" for it in indices)
+        told = shown + name + turns + "".join(f"[{it}]" for it in indices)
         is_first = is_own and name in unit.names.reserved and name not in unit.signals
         return unit.declared(unit.names.own(name) if is_first else unit.names.made(wanted, told), kind, role, at)
 

@@ -157,7 +157,8 @@ def expansion_of(path: str, text: str, include, values: dict) -> Expansion:
             return Expansion(path, text)
         found, modules = parser.program()
     except (Refused, RecursionError) as fault:
-        if parser is None or not parser.is_wider or kernel_forms.is_kernel(text, parser.tokens):
+        is_wider = parser is not None and parser.is_wider or kernel_forms.is_meant_wider(text)
+        if not is_wider or parser is not None and kernel_forms.is_kernel(text, parser.tokens):
             return Expansion(path, text)
         raise fault if isinstance(fault, Refused) else Refused(None, "nesting deeper than 64") from None
     if kernel_forms.is_kernel(text, parser.tokens) or not parser.is_wider and not kernel_forms.is_expanded(text):
@@ -184,7 +185,7 @@ class Whole:
         top = Scope(unit)
         equations.open_scope(found, top)
         inner = Scope(unit, top, True)
-        inner.active = (process,)
+        inner.active, unit.scope = (process,), inner
         if process.parameters:
             raise Refused(process.parameters[0].at, f"bad call of {process.name}", "the first process has no parameters: give it constants")
         paces = self.keep_names(process)

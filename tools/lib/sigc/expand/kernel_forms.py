@@ -1,5 +1,6 @@
 """Whether a text is a kernel as it is: its syntax is the kernel's, and no bare constant stands in it where the kernel allows none."""
 import functools
+import re
 
 from sigc.expand.tokens import FOREIGN_MARKS
 from sigc.read import syntax
@@ -8,6 +9,15 @@ from sigc.read.lexer import RESERVED
 BUILT_IN = {"min", "max", "abs"}
 # Operands that may be constants: of a function one of them, of `when` the first.
 FUNCTIONS = {"=", "/=", "<", "<=", ">", ">=", "+", "-", "*", "/", "modulo", "and", "or", "xor"}
+
+
+# What no writer of a kernel writes, also where the rest of the text cannot be read: kinds of arrays, enumerations, automata.
+MEANT = re.compile(r"\[[^\]\n]*\]\s*(?:integer|boolean|event)\b|=\s*enum\b|\bautomaton\s+\w+\s+state\b|\bconstant\s+(?:\[|integer\b|boolean\b)")
+
+
+def is_meant_wider(text: str) -> bool:
+    """Whether a text is written as no kernel."""
+    return bool(MEANT.search(re.sub(r"%[^%]*%", " ", text)))
 
 
 @functools.lru_cache(maxsize=1)

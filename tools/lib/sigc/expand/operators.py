@@ -66,7 +66,8 @@ def found_name(node: Node, scope: Scope):
     """What a name means; Refused where it means nothing."""
     found = scope.find(node.data)
     if found is None:
-        raise Refused(scope.at(node.at), f"unknown name {node.data}", *meant(node.data, scope.visible()))
+        is_value = any(node.data in it.values for it in types_of(scope) if isinstance(it, Enumeration))
+        raise Refused(scope.at(node.at), f"unknown name {node.data}", *([f"did you mean `#{node.data}`?"] if is_value else meant(node.data, scope.visible())))
     return found
 
 

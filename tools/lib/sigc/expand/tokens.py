@@ -18,6 +18,7 @@ FOREIGN_MARKS = {"[", "]", "#", ":", "::", "::=", "-->", "|+", "|*", "^<", "^>",
 WORDS = set("if then else case array of with automaton state do unless until go resume type enum constant module use".split())
 # Operators between two operands that are names elsewhere.
 BETWEEN = {"count", "after", "from", "window", "next"}
+WRITTEN = {"&": "`and` is written in letters", "~": "`not` is written in letters", "'": 'a label is written in `"`', "\\": "not equal is `/=`"}
 MOST_NUMBER = 9223372036854775807
 
 
@@ -56,6 +57,8 @@ def no_token(byte: str) -> tuple[str, ...]:
         return "label not closed", "a label stands between two quotes on one line"
     if byte == ".":
         return "unexpected byte `.`", "there are no real numbers and no fields: count in parts of a thousand, and name each part of a structure"
+    if byte in WRITTEN:
+        return f"unexpected byte `{byte}`", WRITTEN[byte]
     return (f"unexpected byte `{byte}`" if " " <= byte <= "~" else "unexpected byte",)
 
 

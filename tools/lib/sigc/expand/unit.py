@@ -22,6 +22,7 @@ class Unit:
     models: dict = field(default_factory=dict)
     calls: int = 0
     modules: object = None
+    scope: object = None
     values: dict[str, int] = field(default_factory=dict)
     counts: dict[str, int] = field(default_factory=dict)
 
@@ -66,9 +67,9 @@ class Unit:
         self.order.append((terms, at))
 
     def told(self, at: At, text: str) -> None:
-        note = Note(at, text)
-        if note not in self.notes:
-            self.notes.append(note)
+        """Reports something once a place: of the turns of an iteration and of several calls the first one counts."""
+        if not any(it.at.place == at.place and it.text == text for it in self.notes):
+            self.notes.append(Note(at, text))
 
 
 def kernel_kind(kind: object) -> str:

@@ -1,4 +1,5 @@
 """A walk over the tokens of a text: what each reader of a part of the grammar shares."""
+from sigc.expand import other_languages
 from sigc.expand.messages import Place, Refused
 from sigc.expand.tokens import FOREIGN_MARKS, Token, is_name, tokens_of
 
@@ -50,7 +51,8 @@ class Walk:
     def stop(self, wanted: str, *advice: str) -> None:
         if self.here().text in FOREIGN_MARKS:
             self.is_wider = True
-        raise Refused(self.place(), "syntax", f"found {self.found()}; wanted {wanted}", *advice)
+        told = advice or other_languages.advice(self.tokens, self.at)
+        raise Refused(self.place(), "syntax", f"found {self.found()}; wanted {wanted}", *told)
 
     def name(self, what: str = "a name") -> Token:
         if not is_name(self.here()):

@@ -9,6 +9,8 @@ from sigc.prove import property_language
 from sigc.trace import traces
 from sigc.trace.traces import called
 
+# So many instants of a long counterexample are shown, the last ones.
+MOST_SHOWN = 10
 FAULT_AT = re.compile(r"end: (overflow|division by zero) at (\d+):(\d+) after .*")
 
 
@@ -62,13 +64,22 @@ def left_of(asked, flows, instants):
 
 
 def shown(instants, names, home, failing=None):
-    """The table of some signals at the instants, and at the one after them that fails."""
+    """The table of some signals at the last instants, and at the one after them that fails."""
     states = home.states()
     numbers = [*map(str, range(1, len(instants) + 1)), f"{len(instants) + 1} (fails)"]
     rows = [["instant", *map(home.name, names)]]
     rows += [[number, *(called(it.get(name, "."), states.get(name)) for name in names)] for number, it in zip(numbers, [*instants, failing]) if it is not None]
+    left_out = max(len(rows) - 1 - MOST_SHOWN, 0)
+    rows[1 : 1 + left_out] = []
     widths = [max(map(len, column)) for column in zip(*rows)]
-    return ["  " + " ".join(it.ljust(width) for it, width in zip(row, widths)).rstrip() for row in rows]
+    table = ["  " + " ".join(it.ljust(width) for it, width in zip(row, widths)).rstrip() for row in rows]
+    return [*([f"  the last {MOST_SHOWN} of {left_out + MOST_SHOWN} instants:"] if left_out else []), *table]
+
+
+def place_of(claim, home):
+    """Where a claim is an `assert` of the text, its place."""
+    name = claim.rpartition(" ")[2]
+    return f" (the assert at {home.expansion.unit.signals[name].at})" if not home.is_kernel and name in home.expansion.asserts else ""
 
 
 def of_target(name):
