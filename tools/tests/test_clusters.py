@@ -45,6 +45,14 @@ GUARDS = f"""process GUARDS = (? boolean {", ".join(TRUTHS)}; integer A ! intege
 pragmas RunOn {{Z}} "1" end pragmas
 (| Y := A when ({" or ".join(f"(B{it} and C{it})" for it in PAIRS)}) | Z := (Y default (0 when ^A)) + 1 | A ^= {" ^= ".join(TRUTHS)} |);
 """
+# A chain of clusters, each of which takes a signal from the one before.
+CHAIN = range(64)
+MANY_CLUSTERS = f"""process CHAIN = (? integer A ! integer Y)
+pragmas {" ".join(f'RunOn {{X{it}}} "{it}"' for it in CHAIN)} end pragmas
+(| X0 := A + 1 | {" | ".join(f"X{it} := X{it - 1} + {it}" for it in CHAIN[1:])} | Y := X63 modulo 100 |)
+where integer {", ".join(f"X{it}" for it in CHAIN)}; end;
+"""
+MANY_FLOWS = f"A {' '.join(map(str, range(2000)))}\n"
 # More outputs that may be missing than one item tells of.
 MANY = f"""process MANY = (? integer A ! integer {", ".join(f"Y{it}" for it in range(40))}; event E; boolean G)
 pragmas RunOn {{{", ".join(f"Y{it}" for it in range(40))}, E}} "1" end pragmas
@@ -128,6 +136,14 @@ class Threads(Room):
 
     def test_a_circle_within_an_instant(self):
         self.check(CIRCLE, ["flows 2\nA 3*5000\n"])
+
+    def test_a_circle_within_an_instant_over_many_instants(self):
+        """Of each instant two items are waited for; the links hold as many as they do where nothing is said."""
+        self.check(CIRCLE, ["flows 2\nA 3*100000\n"], (16384,))
+
+    def test_sixty_four_clusters_on_four_threads(self):
+        folder = self.made(MANY_CLUSTERS)
+        self.assertEqual(self.said(folder, MANY_FLOWS, "--threads", "4"), self.wanted(folder, MANY_FLOWS))
 
     def test_any_number_of_threads(self):
         folder = self.made(FAULTS)
@@ -283,6 +299,11 @@ class Mpi(Apart):
 
     def test_cases(self):
         self.check_cases(self.rows(), CAPACITIES)
+
+    def test_sixty_four_clusters_on_four_ranks(self):
+        self.ranks = "4"
+        folder = self.made(MANY_CLUSTERS)
+        self.assertEqual(self.said(folder, MANY_FLOWS), self.wanted(folder, MANY_FLOWS))
 
     def test_a_rank_for_each_actor(self):
         self.ranks = "9"

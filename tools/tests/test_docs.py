@@ -28,6 +28,25 @@ esac
 """
 
 
+class PlainWords(unittest.TestCase):
+    """tests/plain_words.py: prose is read, code and links are not."""
+
+    def setUp(self):
+        sys.path.insert(0, f"{TOP}/tests")
+        self.addCleanup(sys.path.remove, f"{TOP}/tests")
+        self.words = SourceFileLoader("plain_words", f"{TOP}/tests/plain_words.py").load_module()
+
+    def test_odd_words_of_prose(self):
+        for line, word in [("It stands behind the name.", "behind"), ("A mend is shown.", "mend"), ("It is told once.", "told"), ("It ends for want of memory.", "want of")]:
+            self.assertEqual([(at, found) for at, found, _ in self.words.odd_words(f"# A page\n\n{line}\n")], [(3, word)])
+        for line in ("`behind`", "```\nbehind\n```", "    behind", "[a](behind.md)", "Ask whoever has it. Tell them."):
+            self.assertEqual(self.words.odd_words(f"{line}\n"), [])
+
+    def test_pages_say_for_whom_they_are(self):
+        self.assertTrue(self.words.says_for_whom("# A page\n\nFor readers: a page.\n"))
+        self.assertFalse(self.words.says_for_whom("# A page\n\nThis and that.\n\nFor readers.\n"))
+
+
 class Pages(unittest.TestCase):
     def counts(self, page, **files):
         """How many examples of a page pass and fail, where sigc is a stand-in and these files stand in the folder `there`."""

@@ -39,6 +39,7 @@ WAYS = {
     "sigc-prove": [("FILE", "--never-ends")],
     "sigc-run": [("FILE", "FLOWS"), ("PROGRAM", "FILE"), ("PROGRAM", "FLOWS", "--want", "FILE")],
     "sigc-step": [("FILE",), ("PROGRAM", "--flows", "FILE")],
+    "sigc-system": [("FILE",), ("SYSTEM", "FILE")],
     "sigc-table": [("check", "FILE", "TABLE"), ("check", "PROGRAM", "FILE"), ("flows", "FILE"), ("flows", "TABLE", "--program", "FILE"), ("rows", "FILE"), ("rows", "FILE", "FLOWS"), ("rows", "PROGRAM", "FILE")],
     "sigc-trace": [("FILE", "FLOWS"), ("PROGRAM", "FILE")],
     "sigc-view": [("FILE", "FLOWS"), ("PROGRAM", "FILE")],
@@ -46,7 +47,7 @@ WAYS = {
     "trace2vcd": [("FILE", "FLOWS"), ("PROGRAM", "FILE"), ("FILE",), ("TRACE", "--program", "FILE")],
 }
 # Where an empty file is one of those that are right.
-EMPTY = {("PROGRAM", "FILE"), ("PROGRAM", "--flows", "FILE"), ("run", "PROGRAM", "FILE"), ("rows", "PROGRAM", "FILE"), ("play", "PROGRAM", "FLOWS", "FILE")}
+EMPTY = {("PROGRAM", "FILE"), ("SYSTEM", "FILE"), ("PROGRAM", "--flows", "FILE"), ("run", "PROGRAM", "FILE"), ("rows", "PROGRAM", "FILE"), ("play", "PROGRAM", "FLOWS", "FILE")}
 # Scripts that ask sigc of a program, with the words that they begin with.
 ASKING = ("clocks2dot", "sigc", "sigc-c", "sigc-caret", "sigc-run", "sigc-step", "sigc-table", "sigc-trace", "sigc-view", "sigc-why", "trace2vcd")
 # Scripts that run a program, with the words behind the files or before them.
@@ -86,6 +87,7 @@ class Table(unittest.TestCase):
         self.addCleanup(shutil.rmtree, self.room)
         self.words = {"PROGRAM": f"{EXAMPLES}/sum.sig", "FLOWS": f"{EXAMPLES}/sum.flows", "TRACE": f"{EXAMPLES}/down.trace"}
         self.words["OUT"] = f"{self.room}/out"
+        self.words["SYSTEM"] = f"{EXAMPLES}/system/plant.sys"
         self.words["TABLE"] = written(self.room, "right.csv", "A,B,Y\n1,2,3\n")
 
     def filled(self, words, file):

@@ -7,7 +7,8 @@ import unittest
 
 from calling import TOP, needs_sigc, pairs, ran, sigc, written
 
-from sigc.expand import Refused, expanded
+from sigc.expand import Refused, calling, expanded
+from sigc.hints import entries
 
 HERE = os.path.dirname(os.path.realpath(__file__))
 AROUND = """type COLOUR = enum (red, green, blue);
@@ -159,6 +160,28 @@ class Expanding(unittest.TestCase):
         self.assertEqual([str(it).split("p.sig:")[1] for it in found.notes],
                          ["2:11: note: no init is given: it is 0", "2:22: note: no init is given: it is 0", "2:38: note: no init is given: it is false",
                           "2:44: note: this is dropped: a dependence, `-->`: sigc orders computations by itself"])
+
+    def test_notes_stand_once_a_place(self):
+        text = "process P = (? [3] integer A ! [3] integer Y)\n  array I to 2 of Y[I] := F(A[I]) end\nwhere process F = (? integer X ! integer Y) Y := X $; end;\n"
+        self.assertEqual([str(it.at.place).split("p.sig:")[1] for it in self.expanded(text).notes], ["3:52"])
+
+    def test_a_branch_that_defines_nothing_is_told(self):
+        text = "type T = enum (a, b);\nprocess P = (? T S; integer A ! integer Y)\n(| S ^= A\n | case S in\n     {#a}: Y := A\n     {#b}: (| |)\n   end\n |);\n"
+        self.assertEqual([str(it).split("p.sig:")[1] for it in self.expanded(text).notes],
+                         ["6:12: note: Y is absent where this branch is taken: no equation here defines it"])
+        self.assertEqual(self.expanded(text.replace("(| |)", "Y := 0")).notes, [])
+
+    def test_locals_of_an_iteration_have_its_turn(self):
+        text = "process P = (? [2] integer A ! [2] integer Y)\n  array I to 1 of (| Y[I] := T + 1 | T := A[I] |) where integer T; end end;\n"
+        found = self.expanded(text)
+        self.assertEqual([found.name(it) for it in ("T", "T_")], ["T[I=0]", "T[I=1]"])
+        self.assertEqual(found.kernel_name("T[I=1]"), "T_")
+
+    def test_each_refusal_has_its_section(self):
+        with open(f"{TOP}/docs/signal.md", encoding="utf-8") as it:
+            anchors = {entries.anchor(line.lstrip("#").strip()) for line in it if line.startswith("## ")}
+        self.assertLessEqual(set(calling.SECTIONS.values()), anchors)
+        self.assertEqual(calling.section_of("index 3 is out of range"), "#arrays")
 
     def test_the_map(self):
         found = self.expanded("process P = (? [2] integer A ! integer Y)\n  Y := max(A);\n")

@@ -45,8 +45,12 @@ GUARDS = {
 RESERVED = set(
     "auto break case char const continue default do double else enum extern float for goto if inline int long register restrict return short signed "
     "sizeof static struct switch typedef union unsigned void volatile while int64_t uint32_t INT64_C INT64_MIN INT64_MAX "
-    "state context add subtract multiply divide modulo P_step P_init P_ends P_end P_state P_context P_DONE P_EXHAUSTED P_OVERFLOW P_DIVISION_BY_ZERO".split()
+    "state context result add subtract multiply divide modulo asm fortran typeof linux unix i386 "
+    "P_step P_init P_ends P_end P_state P_context P_DONE P_EXHAUSTED P_OVERFLOW P_DIVISION_BY_ZERO".split()
 )
+# What stdint.h has or may have, and how the names of the program begin.
+KEPT = re.compile(r".*_t|[A-Z0-9_]*_(MIN|MAX|WIDTH|C)|([rw]_)?P_.*")
+NAMED_SO = "process P = (? integer result, P_x, SIZE_MAX, y_t, linux ! integer r_P_y, asm) (| r_P_y := result + P_x | asm := SIZE_MAX + y_t + linux | result ^= y_t |);"
 
 
 def step_of(text):
@@ -133,9 +137,11 @@ class Made(unittest.TestCase):
 
     def test_names_that_a_writer_may_take(self):
         """Identifiers of at most 63 letters, none twice and none that C11 or the text has; comments that end where they end."""
-        for text, image, _ in [*special(), *drawn(10)]:
+        for text, image, _ in [*special(), *drawn(10), (NAMED_SO, built(NAMED_SO), [])]:
             read = images.image_of(image)
             given = literal_names.Chosen(read, sources.Source(text, read), "P").given(["head"])
+            self.assertEqual([it for it in [*given.signal, *given.comes, *given.next, *given.field] if KEPT.fullmatch(it)], [])
+            self.assertTrue(all(it.startswith("r_P_") for it in given.input) and all(it.startswith("w_P_") for it in given.output))
             step = [*given.signal, *given.comes, *given.next, *given.input, *given.output]
             for names in (step, given.field):
                 self.assertEqual(len(set(names)), len(names))

@@ -1,4 +1,5 @@
 """The language server, spoken to directly; and the files for editors, in Vim and Neovim where they are installed."""
+import contextlib
 import io
 import json
 import os
@@ -15,7 +16,8 @@ from unittest import mock
 from helping import EXAMPLES, NEEDS_SIGC, TOOLS, only_with, program, ran
 
 from sigc.call import compiler
-from sigc.editor import documents, places, soon
+from sigc.commands import lsp
+from sigc.editor import documents, parameters, places, soon
 from sigc.editor.messages import Messages
 from sigc.hints import entries
 from sigc.read import layout
@@ -255,7 +257,7 @@ class Conversation(unittest.TestCase):
 
     def test_what_is_no_request(self):
         self.assertEqual(self.client.ask("textDocument/nothing", {})["error"]["code"], -32601)
-        self.assertEqual(self.client.ask("textDocument/hover", {})["error"]["code"], -32602)
+        self.assertEqual(self.client.ask("textDocument/hover", {})["error"], {"code": -32602, "message": "params: textDocument is missing"})
         self.client.write(b"{")
         self.assertEqual(self.client.read()["error"]["code"], -32700)
         for body in (b'{"id": 9, "method": ["a"]}', b"[" * 100_000, b'{"id": ' + b"[" * 50_000):
@@ -282,6 +284,35 @@ class Late(unittest.TestCase):
         sigc = compiler.Sigc(program())
         self.assertEqual(soon.When(sigc, TIMER).words("N"), "")
         self.assertEqual(soon.When(sigc, compiler.PROBE).words("NONE"), "")
+
+
+class Parameters(unittest.TestCase):
+    """What an editor sends wrong is its error; what the server does wrong is the server's."""
+
+    def refusal(self, method, given):
+        with self.assertRaises(parameters.WrongParameters) as raised:
+            parameters.check(method, given)
+        return str(raised.exception)
+
+    def test_wrong_ones(self):
+        of = {"textDocument": {"uri": "file:///p.sig"}}
+        self.assertEqual(self.refusal("textDocument/hover", []), "params: an object is wanted")
+        self.assertEqual(self.refusal("textDocument/hover", {"textDocument": 7}), "params.textDocument: an object is wanted")
+        for position in ({"line": "1", "character": 0}, {"line": -1, "character": 0}, {"line": True, "character": 0}):
+            said = self.refusal("textDocument/hover", {**of, "position": position})
+            self.assertEqual(said, "params.position.line: a number that is not negative is wanted")
+        self.assertEqual(self.refusal("textDocument/didChange", {**of, "contentChanges": [{}]}), "params.contentChanges[0]: text is missing")
+        parameters.check("textDocument/hover", {**of, "position": {"line": 0, "character": 0}})
+        parameters.check("shutdown", {})
+
+    def test_an_own_error_is_no_wrong_parameter(self):
+        server = lsp.Server(io.BytesIO(), io.BytesIO())
+        server.requests["workspace/symbol"] = lambda given: {}["a key of the server"]
+        with contextlib.redirect_stderr(io.StringIO()):
+            server.answer({"id": 1, "method": "workspace/symbol", "params": {"query": ""}})
+        self.assertIn(b"-32603", server.write.getvalue())
+        server.answer({"id": 2, "method": "textDocument/hover", "params": {"textDocument": {"uri": "u"}, "position": {"line": 0, "character": 0}}})
+        self.assertIn(b'"code": -32602, "message": "u is not open"', server.write.getvalue())
 
 
 class Stream(unittest.TestCase):

@@ -12,7 +12,8 @@ import unittest
 from calling import SIGC, TOOLS, needs_sigc, ran, written
 import wider
 
-from sigc.call import compiler
+from sigc.call import compiler, opened
+from sigc.call.refusing import Refused
 from sigc.editor import documents
 from sigc.prove import z3_solver
 from sigc.read import plain_kernels
@@ -24,6 +25,33 @@ true  1    2    3    #lit #off #off 3     false false false 0
 false 4    5    6    #off #lit #off 9     true  false false 3
 false 7    8    9    #off #off #lit 18    false true  false 9
 """
+
+NAMED = """constant integer N = 3, MOST = 90;
+type A = enum (red, green);
+type B = enum (green, red);
+process P = (? [N] integer T; A S; B U ! boolean HOT)
+(| S ^= U ^= T | HOT := T[N - 1] > MOST |);
+"""
+
+
+class Properties(unittest.TestCase):
+    """Expressions over the user's signals know the constants, the types and the arrays of the program."""
+
+    def test_expressions(self):
+        home = opened.Opened("p.sig", NAMED)
+        for text, wanted in [
+            ("T[N - 1] > MOST", "T_2 > 90"), ("T[0] + N", "T_0 + 3"), ("S = #red", "S = 0"), ("U = #red", "U = 1"), ("#red /= U", "1 /= U"), ("not (S = #green and U = #green)", "not (S = 1 and U = 0)"),
+            ("max(T) <= MOST", "((T_0 <= 90) and (T_1 <= 90) and (T_2 <= 90))"), ("max(T) > 5", "((T_0 > 5) or (T_1 > 5) or (T_2 > 5))"),
+            ("min(T) > T[1]", "((T_0 > T_1) and (T_1 > T_1) and (T_2 > T_1))"), ("HOT or S = A#green", "HOT or S = 1"),
+        ]:
+            with self.subTest(text):
+                self.assertEqual(home.kernel_words(text), wanted)
+
+    def test_what_is_refused(self):
+        home = opened.Opened("p.sig", NAMED)
+        for text, why in [("(S when HOT) = #blue", "#blue is no value of an enumeration"), ("(S when HOT) = #red", "#red is a value of several types")]:
+            with self.subTest(text), self.assertRaisesRegex(Refused, why):
+                home.kernel_words(text)
 
 
 @needs_sigc
@@ -138,7 +166,15 @@ class Wider(unittest.TestCase):
         done = ran("sigc-prove", self.row, "--always", "L[1] = #lit or A[1] < 10", "--range", "A[1]=0..9")
         self.assertEqual(done.stdout, "proved: always L[1] = #lit or A[1] < 10\n")
         done = ran("sigc-prove", self.with_fault(" | TOTAL", " | assert(L[2] = #off)\n | TOTAL"))
-        self.assertRegex(done.stdout, r"^false: always assert_1: broken at instant \d+\n")
+        self.assertRegex(done.stdout, r"^false: always assert_1 \(the assert at .*/wrong.sig:11:4\): broken at instant \d+\n")
+
+    @unittest.skipUnless(z3_solver.path(), "z3 is not installed")
+    def test_a_long_counterexample(self):
+        """It has no instant that can be left out, and its last ones are shown."""
+        text = "process P = (? [2] boolean A ! integer N)\n(| N := if A[0] then 0 else (N $ 1 init 0) + 1\n | A ^= N\n | assert(N < 14)\n |);\n"
+        lines = ran("sigc-prove", written(self.room, "p.sig", text)).stdout.splitlines()
+        self.assertEqual(lines[0], f"false: always assert_1 (the assert at {self.room}/p.sig:4:4): broken at instant 14")
+        self.assertEqual((lines[1], lines[3], len(lines)), ("  flow A[0]" + " false" * 14, "  the last 10 of 14 instants:", 15))
 
     def test_sigc_lsp(self):
         sigc = compiler.Sigc(SIGC)
