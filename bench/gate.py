@@ -4,13 +4,13 @@
     bench/gate.py [--log FILE] [--times FILE]     runs `rt ci`, whose own lines go to the log (/tmp/gate.log)
     bench/gate.py --attach PID [--times FILE]     watches an `rt ci` that has begun; what ended before is not seen
 
-The figures are seconds of processor time, read from /proc while the checks run: a check is told by its
+The figures are seconds of processor time, read from /proc while the checks run: a check is known by its
 command line and its folder. `seed` is the proof that a crate's edits begin with, where there are several;
 `edits` all of their checks. Below the table stand the longest chain of crates, each of which waits for the one
-before it, and of each crate its ten dearest functions: while a check from nothing runs, the checker writes a file
+before it, and of each crate its ten most expensive functions: while a check from scratch runs, the checker writes a file
 for each thing that it has made into a folder of its own, and the time between two files is what the later one cost,
 so these figures are good to a third. All goes to standard output, and the times to the file of --times, from which
-bench/gate_model.py reckons other machines. The status is that of the run. RT_JOBS in the environment limits the
+bench/gate_model.py estimates other machines. The status is that of the run. RT_JOBS in the environment limits the
 processors, as for rt.
 """
 import argparse

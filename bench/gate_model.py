@@ -1,10 +1,10 @@
 #!/usr/bin/env python3
-"""Reckons how long the gate takes from nothing on another machine, from the times of a run.
+"""Estimates how long the gate takes from scratch on another machine, from the times of a run.
 
     bench/gate_model.py TIMES [PROCESSORS [GB]]     TIMES: what `bench/gate.py --times FILE` wrote
 
 It does as `rt ci` does: a crate's proof begins when those below it are proved, its tests likewise, its edits then too;
-those with the longest chain behind them come first, as many side by side as there are processors and as memory holds,
+those with the longest chain after them come first, as many side by side as there are processors and as memory holds,
 each on one processor. It prints the wall time in minutes, at the speed of the machine of the run.
 """
 import json

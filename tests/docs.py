@@ -4,19 +4,19 @@
 In a document (README.md, docs/*.md, examples/README.md, tools/README.md, ..)
 
   - a fence ```signal NAME, ```text NAME, .. with a file name puts a file of that name into the folder where the
-    commands run; a later fence of the same name stands in its place. Where a committed file of that name stands
+    commands run; a later fence of the same name stands in its place. If a committed file of that name is
     there, the fence has to be its text;
-  - a line `> error 1:2: ..` behind a ```signal fence is what `sigc check` has to say of its program;
+  - a line `> error 1:2: ..` after a ```signal fence is what `sigc check` has to say of its program;
   - a fence ```diff NAME changes that file, line by line: `- ` in front of a line that goes, `+ ` of one that comes, two
-    blanks of one that stays; behind it `sigc check NAME` has to say `accepted`;
-  - a fence ```console holds commands, each a line that begins with `$ `, and behind each what it prints:
-    standard output, then standard error. A last line `(status N)` tells the status; without it, sigc's own
+    blanks of one that stays; after it `sigc check NAME` has to say `accepted`;
+  - a fence ```console holds commands, each a line that begins with `$ `, and after each what it prints:
+    standard output, then standard error. A last line `(status N)` gives the status; without it, sigc's own
     status has to fit the line that it says. Where the fence begins with `# needs gcc`, or another program, it is
     skipped, with a line, where there is no such program;
   - in a table with the columns Command, Standard output, Standard error and Status each row is such a command.
 
 Commands run in order, at the top of a copy of what is committed, in which the program stands as a build leaves it; `sigc`
-is it too. A command that begins with `cd` or `export` holds for all behind it. What a document's commands make of
+is it too. A command that begins with `cd` or `export` holds for all after it. What a document's commands make of
 committed files has to be what these are. A ```signal fence without a name, or one that no command of its document names,
 is a failure, and so is all that tests/pages.py finds. The last line is `N passed, M failed`.
 """

@@ -1,9 +1,9 @@
 #!/usr/bin/env python3
 """edits.py: whether each wrong body still applies.
 
-An edit of `wrong-bodies/CRATE/` or of `crates/CRATE/must-fail/` names files of the crate, and behind each the texts to be
-exchanged: a line `old: TEXT` and a line `new: TEXT` each, where the old text stands in that file exactly once. One that does not apply any
-more shows nothing; this tells each such one, in a second, and proves nothing. The last line is `N passed, M failed`.
+An edit of `wrong-bodies/CRATE/` or of `crates/CRATE/must-fail/` names files of the crate, and after each the texts to be
+exchanged: a line `old: TEXT` and a line `new: TEXT` each, where that file has the old text exactly once. One that does not apply any
+more shows nothing; this prints each such one, in a second, and proves nothing. The last line is `N passed, M failed`.
 """
 import glob
 import os

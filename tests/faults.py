@@ -14,7 +14,7 @@ Runs SIGC on rows of every command, each with its output, its line and its statu
   nodes     an image whose verifying takes more nodes than there are, where this part is named: it takes many seconds.
 
 Each answer must be the row's, or, where a fault befell the command, the status and the line that docs/formats.md gives for it,
-with a beginning of the row's output. With less stack than docs/limits.md asks for, a command may also end by a signal.
+with a beginning of the row's output. With less stack than docs/limits.md gives, a command may also end by a signal.
 `--stacks` prints the least stack of each deep program and command instead. Without gcc the first three parts are left out, which a line
 says. SIGC is the first word, or the environment's, or the program in crates/sigc/out. The last line is `N passed, M failed`.
 """
@@ -650,7 +650,7 @@ def main():
         is_compiled = faults.compile()
         for part in words or [it for it in PARTS if it not in ON_CALL]:
             if part in NEED_LIBRARY and not is_compiled:
-                print(f"faults.py: there is no gcc, so {part} are left out")
+                print(f"faults.py: gcc is not installed: part {part} is skipped")
             else:
                 PARTS[part](faults)
     print(f"{faults.passed} passed, {faults.failed} failed")

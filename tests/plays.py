@@ -1,10 +1,10 @@
 #!/usr/bin/env python3
-"""plays.py [SIGC]: lists of events drawn at random, and what `play` writes behind each of their beginnings.
+"""plays.py [SIGC]: lists of events drawn at random, and what `play` writes after each of their beginnings.
 
 For every program of examples/ that has a flow file, over this file, over one with each of its lines fifty times, and over that
 one up to the third instant, it draws lists of 10,000 events: steps and looks of all actors, now and then mostly of one of
 them, and of actors that are not there. `SIGC play` runs beginnings of each list at the capacities 1, 2 and 16. The text of the
-events and the rest behind `finish` must together be the text of `SIGC run --workers 0`, with the same end and status; the state
+events and the rest after `finish` must together be the text of `SIGC run --workers 0`, with the same end and status; the state
 between them must have a line for each actor of `SIGC code` and for each link, none of which holds more than its capacity.
 Last it does so with a file of as many events and as many bytes as an event file may have.
 

@@ -1,7 +1,7 @@
 #!/usr/bin/env python3
-"""rows.py [SIGC] [NAME..]: whether each row of tests/rows has the answer that stands in it (tests/rows/README.md).
+"""rows.py [SIGC] [NAME..]: whether each row of tests/rows has the answer that it states (tests/rows/README.md).
 
-The rows of tests/rows/*.txt are asked of the program sig_passes, which tells what each pass answers; those of
+The rows of tests/rows/*.txt are read by the program sig_passes, which compares them with what each pass answers; those of
 tests/rows/commands/*.txt are calls of the program sigc. Both are the programs that the gate built, in crates/*/out, or those
 that the variables SIG_PASSES and SIGC name. A NAME is a file of rows, as clocks or commands/run, or the folder commands;
 without one all are read, and WATCH is called with each beginning of its texts. The last line is `N passed, M failed`.

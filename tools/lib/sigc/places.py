@@ -3,3 +3,9 @@ import os
 
 TOP = os.path.normpath(f"{os.path.dirname(os.path.realpath(__file__))}/../../..")
 TOOLS = f"{TOP}/tools"
+
+
+def version() -> str:
+    """The version of sigc, which the file VERSION at the top has."""
+    with open(f"{TOP}/VERSION", encoding="ascii") as opened:
+        return opened.read().strip()

@@ -26,7 +26,7 @@ without one the transition is always taken.
 
 An output that is a column of the states is one of Moore's: it has the value of the state. One that is a column of the
 transitions is one of Mealy's: it has the value of the transition that is taken. Where a cell is empty or no transition
-is taken an event is absent, a boolean is false, and an integer is absent, or has the value behind its `else`.
+is taken an event is absent, a boolean is false, and an integer is absent, or has the value after its `else`.
 
 The output STATE is the number of the state, from 0 on. With `transitions until`, the default, STATE and Moore's outputs
 are those of the state in which the instant begins, and a transition counts from the next instant on; with `transitions

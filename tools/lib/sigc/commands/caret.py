@@ -1,4 +1,4 @@
-"""Runs sigc with the words given, and shows where a refusal stands and what mends it.
+"""Runs sigc with the words given, and shows the place of a refusal and how to fix it.
 
     tools/sigc-caret check examples/watch.sig
     tools/sigc-caret check --lint --explain p.sig
@@ -9,17 +9,17 @@ is shown as
     FILE:LINE:COLUMN: error: TEXT
 
 with the line of the file, a caret under the place, what was found and what was wanted, what was most likely meant, a
-mend that sigc accepts, and the entry of docs/errors.md. Notes follow with the other places that are guilty: of clocks
+fix that sigc accepts, and the entry of docs/errors.md. Notes follow with the other places that are responsible: of clocks
 the least equations that keep the refusal, as sigc-why finds them. Further refusals that are independent of the first
 one follow. The first of these lines is what the problem matchers of editors read. A trace that breaks an equation is
 shown with that equation and with the line of the trace. A line without a place stands at line 1, column 1. Where a
 flow file has no value for an input, a warning says so.
 
-Words of its own, before or behind the command's:
+Its own options, before or after the command's:
 
     --explain   shows the entry of docs/errors.md itself
     --lint      warns of what sigc takes and was hardly meant: a local or a process that is not used, a boolean input
-                that nothing asks, a comparison that is written twice where clocks differ by it, an input that comes where a comparison is true,
+                that nothing reads, a comparison that is written twice where clocks differ by it, an input that comes where a comparison is true,
                 an operand that comes more rarely than the one beside it, a condition that is never true as `not E` of
                 an event, a side of a `default` that is never taken
     -I DIR      names a folder with modules that the program uses
@@ -27,7 +27,7 @@ Words of its own, before or behind the command's:
 A program that is no kernel but has constants, arrays, cases and the like is expanded (docs/signal.md).
 
 The program is the file that the variable SIGC names, or else the script ./sigc at the top of the repository. The
-commands of sigc are told by tools/sigc --help.
+tools/sigc --help prints the commands of sigc.
 """
 import functools
 import os

@@ -1,8 +1,8 @@
-"""Tells in words when the signals of a program come, clock by clock, as `sigc tree` groups them.
+"""Prints in words when the signals of a program come, clock by clock, as `sigc tree` groups them.
 
     tools/sigc-clocks examples/watch.sig
 
-Behind the signals of each clock stands when they come: `at every instant`, or `when` conditions of the program hold, which
+After the signals of each clock it says when they come: `at every instant`, or `when` conditions of the program hold, which
 are signals or expressions as they stand there, those of a call under the names that they have outside of it; and `A or
 else B` where A or B comes whenever they do. A clock of the compiler alone is left out. It reads the image that
 `sigc build` makes; where the program has no root, --pace adds its paces, as sigc does.

@@ -7,7 +7,7 @@ Of a tree each clock is a box with its signals, below the clock whose instants i
 when it comes, as `when SENSE`. Of a code each actor is a
 box: the clusters with their signals, those of one clock on lines of their own, and the collector, which writes the
 reactions. One arrow stands for all links from one actor to another, with their signals; it is dotted where there is
-no more than the report by which a cluster tells that it is through with an instant. The signals of a call stand behind
+no more than the report by which a cluster says that it is through with an instant. The signals of a call come after
 its path, as TIMER#2/EDGE#3.
 
 Clocks and signals of the compiler are left out, or counted; with --all they are drawn too, and the operations of each

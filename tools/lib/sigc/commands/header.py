@@ -13,7 +13,7 @@ from sigc.read import flat_bodies, lexer
 def main():
     words = argparse.ArgumentParser(prog="sigc-header", description=__doc__, formatter_class=argparse.RawDescriptionHelpFormatter)
     words.add_argument("program", metavar="PROGRAM", help="the file of a program")
-    words.add_argument("--silent", metavar="N", type=int, default=0, help="N instants behind it at which nothing is present, to be filled in")
+    words.add_argument("--silent", metavar="N", type=int, default=0, help="N instants after it at which nothing is present, to be filled in")
     words.add_argument("--kinds", action="store_true", help="a line for each signal, with its kind, in place of the header")
     words = words.parse_args()
     try:

@@ -7,7 +7,7 @@ First how many parts there are, then the signals with their kinds, the condition
 first, the nodes of the guards, and the operations in the order in which they are done, each with its place in the program
 and its guard. A guard or a child is `always`, `never` or the number of a node. Where the bytes are no image, it says which
 byte begins the first field that is broken, as `sigc exec` does, and what is wanted there. It reads the file by itself:
-whether the image is sound, `sigc exec` tells.
+`sigc exec` checks whether the image is sound.
 """
 import argparse
 import sys

@@ -1,10 +1,13 @@
-"""Puts sigc, its scripts, completions and man page into a folder.
+"""Installs sigc, its scripts, their man pages and completions in a folder, or packs them for Debian.
 
     tools/sigc-install ~/.local
+    tools/sigc-install --deb out
 
-DIR/bin gets sigc and the scripts, DIR/lib/sigc the program and what the scripts read, DIR/share the man page sigc(1) and
+DIR/bin gets sigc and the scripts, DIR/lib/sigc the program and the files that the scripts read, DIR/share the man pages and
 completions for bash and zsh. The program is the file that the variable SIGC names, or else the one that ./sigc runs; none
-is built. What an earlier call put there is replaced; nothing else is touched.
+is built. The files of an earlier call are replaced; no others are touched.
+
+With --deb, DIR gets a Debian package sigc_VERSION_amd64.deb. The variables DEBFULLNAME and DEBEMAIL name its maintainer.
 """
 import argparse
 import os
@@ -12,8 +15,8 @@ import shutil
 import sys
 import tempfile
 
-from sigc.call import command_words, compiler, manual
-from sigc.places import TOOLS, TOP
+from sigc.call import command_words, compiler, debian, manual, script_pages
+from sigc.places import TOOLS, TOP, version
 
 OF_THE_SOURCES = ("sigc-build", "sigc-dev", "sigc-install", "sigc")
 INNER = """#!/bin/sh
@@ -23,7 +26,7 @@ if [ "$*" = --which ]; then echo "$program"; exit; fi
 if [ "$*" = --version ]; then
     proved='every crate was proved'
     [ ! -e "$(dirname "$program")/unproved" ] || proved='nothing was proved of this program'
-    echo "sigc: installed $(date -r "$program" '+%Y-%m-%d %H:%M'), $proved"
+    echo "sigc $(cat "$(dirname "$program")/VERSION"), installed $(date -r "$program" '+%Y-%m-%d %H:%M'), $proved"
     exit
 fi
 exec "$program" "$@"
@@ -75,6 +78,7 @@ def copied(folder):
     ignored = shutil.ignore_patterns("tests", "__pycache__")
     shutil.copytree(TOOLS, f"{library}/tools", ignore=ignored)
     shutil.copytree(f"{TOP}/docs", f"{library}/docs", ignore=ignored)
+    shutil.copyfile(f"{TOP}/VERSION", f"{library}/VERSION")
     written(f"{library}/sigc", INNER, is_program=True)
 
 
@@ -112,26 +116,55 @@ def put_completions(folder):
         os.symlink("sigc", f"{bash}/{it}")
 
 
-def main():
-    words = argparse.ArgumentParser(prog="sigc-install", description=__doc__, formatter_class=argparse.RawDescriptionHelpFormatter)
-    words.add_argument("folder", metavar="DIR", help="the folder, as ~/.local")
-    words = words.parse_args()
-    folder, program = os.path.abspath(words.folder), os.path.realpath(compiler.program())
-    if not os.path.isfile(program):
-        raise compiler.NoProgram(f"{program} is no file")
-    if os.path.commonpath([folder, TOOLS]) == TOOLS:
-        raise compiler.NoProgram(f"{folder} stands inside {TOOLS}")
+def put_pages(folder: str) -> None:
+    """The man page of sigc, made of the documents, and one of each script, made of its --help."""
+    pages = f"{folder}/share/man/man1"
+    with open(f"{TOP}/docs/formats.md", encoding="utf-8") as opened:
+        written(f"{pages}/sigc.1", manual.man_page(opened.read(), version()))
+    for name, text in manual.helps(TOOLS, scripts()).items():
+        written(f"{pages}/{name}.1", script_pages.page_of(name, text, version()))
+
+
+def install(folder: str, program: str) -> bool:
+    """Installs everything below a folder; returns whether the program is an unproved one."""
+    is_unproved = os.path.basename(program) == "unproved"
     with tempfile.TemporaryDirectory(prefix="sigc-install-") as room:
         kept = shutil.copy(program, f"{room}/program")
         copied(folder)
-        put_program(folder, kept, os.path.basename(program) == "unproved")
+        put_program(folder, kept, is_unproved)
     linked(folder)
     put_completions(folder)
-    with open(f"{TOP}/docs/formats.md", encoding="utf-8") as it:
-        written(f"{folder}/share/man/man1/sigc.1", manual.man_page(it.read()))
-    print(f"installed in {folder}: bin/sigc and {len(scripts())} scripts, share/man/man1/sigc.1, completions for bash and zsh")
-    if os.path.basename(program) == "unproved":
-        print("nothing was proved of this program, which sigc --help tells there too")
+    put_pages(folder)
+    return is_unproved
+
+
+def package(folder: str, program: str) -> int:
+    """Makes the Debian package."""
+    with tempfile.TemporaryDirectory(prefix="sigc-deb-") as room:
+        os.chmod(room, 0o755)
+        is_unproved = install(f"{room}/usr", program)
+        print(debian.packed(room, folder, version(), is_unproved))
+    if is_unproved:
+        print("nothing was proved of this program; the package says so")
+    return 0
+
+
+def main() -> int:
+    words = argparse.ArgumentParser(prog="sigc-install", description=__doc__, formatter_class=argparse.RawDescriptionHelpFormatter)
+    words.add_argument("folder", metavar="DIR", help="the folder, as ~/.local")
+    words.add_argument("--deb", action="store_true", help="write a Debian package into DIR instead")
+    given = words.parse_args()
+    folder, program = os.path.abspath(given.folder), os.path.realpath(compiler.program())
+    if not os.path.isfile(program):
+        raise compiler.NoProgram(f"{program} is no file")
+    if os.path.commonpath([folder, TOOLS]) == TOOLS:
+        raise compiler.NoProgram(f"{folder} is inside {TOOLS}")
+    if given.deb:
+        return package(folder, program)
+    is_unproved = install(folder, program)
+    print(f"installed in {folder}: bin/sigc and {len(scripts())} scripts, man pages in share/man/man1, completions for bash and zsh")
+    if is_unproved:
+        print("nothing was proved of this program; sigc --help says so too")
     if f"{folder}/bin" not in os.environ.get("PATH", "").split(":"):
         print(f"{folder}/bin is not on the PATH: export PATH={folder}/bin:$PATH")
     return 0

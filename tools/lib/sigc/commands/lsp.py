@@ -2,18 +2,19 @@
 
     vim.lsp.start({ cmd = { "tools/sigc-lsp" }, root_dir = vim.fn.getcwd() })       (Neovim)
 
-It shows what `sigc check` refuses, each further refusal that is independent of it and warnings, offers mends as code
-actions, tells a signal's kind, clock (in words, as sigc-clocks does) and cluster, goes to declarations, finds references,
+It shows what `sigc check` refuses, each further refusal that is independent of it and warnings, offers fixes as code
+actions, shows a signal's kind, clock (in words, as sigc-clocks does) and cluster, goes to declarations, finds references,
 renames, completes, lays out as sigc-format does, lists the processes of one program and of all programs in the folder,
-links refusals to docs/errors.md, and shows kinds and clocks as inlay hints. The program is the file that the variable SIGC names, or else the one that ./sigc has built; the
-server builds none.
+links refusals to docs/errors.md, and shows kinds and clocks as inlay hints. The program is the file that the variable SIGC
+names, or else the one that ./sigc has built; the server builds none.
 """
 import argparse
 import json
 import sys
+import traceback
 
 from sigc.call import compiler
-from sigc.editor import inlays, links
+from sigc.editor import inlays, links, parameters
 from sigc.editor.documents import Document
 from sigc.editor.messages import Messages
 from sigc.editor.workspaces import Workspace
@@ -32,7 +33,7 @@ CAPABILITIES = {
     "inlayHintProvider": True,
     "workspaceSymbolProvider": True,
 }
-PARSE_ERROR, NO_METHOD, BAD_WORDS, FAILED = -32700, -32601, -32602, -32803
+PARSE_ERROR, NO_METHOD, WRONG_PARAMETERS, OWN_ERROR, FAILED = -32700, -32601, -32602, -32603, -32803
 
 
 class Server:
@@ -64,7 +65,11 @@ class Server:
         }
 
     def document(self, words):
-        return self.documents[words["textDocument"]["uri"]]
+        """The open document that the parameters of a request name."""
+        uri = words["textDocument"]["uri"]
+        if uri not in self.documents:
+            raise parameters.WrongParameters(f"{uri} is not open")
+        return self.documents[uri]
 
     def initialize(self, words):
         self.sigc = compiler.Sigc(compiler.built_program())
@@ -85,8 +90,9 @@ class Server:
         self.publish(document)
 
     def closed(self, words):
-        del self.documents[words["textDocument"]["uri"]]
-        self.notify("textDocument/publishDiagnostics", {"uri": words["textDocument"]["uri"], "diagnostics": []})
+        uri = self.document(words).uri
+        del self.documents[uri]
+        self.notify("textDocument/publishDiagnostics", {"uri": uri, "diagnostics": []})
 
     def publish(self, document):
         self.notify("textDocument/publishDiagnostics", {"uri": document.uri, "diagnostics": document.diagnostics()})
@@ -113,7 +119,7 @@ class Server:
             if is_request:
                 self.send({"id": message["id"], "error": {"code": NO_METHOD, "message": f"{method} is not known"}})
             return
-        result, error = attempted(call, words)
+        result, error = attempted(method, call, words)
         if is_request:
             self.send({"id": message["id"], **({"error": error} if error else {"result": result})})
         elif error:
@@ -128,12 +134,16 @@ class Server:
             self.answer(message)
 
 
-def attempted(call, words):
-    """A call's result and None, or None and the error that a client is told."""
+def attempted(method, call, words):
+    """A method's result and None, or None and the error that the editor gets. An error of the server does not end it."""
     try:
+        parameters.check(method, words)
         return call(words), None
-    except (KeyError, IndexError, TypeError, AttributeError) as error:
-        return None, {"code": BAD_WORDS, "message": f"these parameters are not right: {error!r}"}
+    except parameters.WrongParameters as error:
+        return None, {"code": WRONG_PARAMETERS, "message": str(error)}
+    except (LookupError, TypeError, AttributeError) as error:
+        traceback.print_exc()
+        return None, {"code": OWN_ERROR, "message": f"an error of sigc-lsp itself, in {method}: {error!r}"}
     except (ValueError, RecursionError, OverflowError, compiler.NoProgram, OSError) as error:
         return None, {"code": FAILED, "message": str(error)}
 

@@ -18,16 +18,16 @@ its signals stand before that operation, and else nothing is assumed: the result
 `N < 1000` says nothing of it. What is proved so holds of each run that meets the assumptions as far as it has values.
 
 With --cover FOLDER, the folder of the program, the flow files that stand there are run, and for all that they do not reach
-(as sigc-run --cover tells it) flows are looked for that reach it, or it is proved that no run does. They are written into the
+(as sigc-run --cover prints it) flows are looked for that reach it, or it is proved that no run does. They are written into the
 folder as NAME.cover1.flows, with what sigc says of them as NAME.cover1.want. The status is 2 where something is not known.
 
 With --certify a second solver (cvc5 or cvc4 of Debian, where there is one) checks what z3 proved: that the invariant which z3
 found holds at first, that each instant keeps it, and that no instant within it breaks the claim. What was checked is said.
 
-It asks z3 (Debian's package) about the image that `sigc build` makes, operation by operation, with integers of 64 bits. A
-claim that is false is told with a flow file, after sigc has run it up to the broken instant. What is proved is z3's word on
+It queries z3 (Debian's package) about the image that `sigc build` makes, operation by operation, with integers of 64 bits. A
+claim that is false is reported with a flow file, after sigc has run it up to the broken instant. What is proved is z3's word on
 formulas that this script makes: no proof covers them. The status is 0 where all is proved, 1 where a claim is false, 2
-where one is not decided in time, 3 where nothing could be asked, or no flows meet what is assumed.
+where one is not decided in time, 3 if no query was possible, or no flows meet what is assumed.
 """
 import argparse
 import os
@@ -36,7 +36,7 @@ import sys
 from sigc.call import opened, running
 from sigc.commands.run import pairs_of
 from sigc.image import intervals, step_statements
-from sigc.prove import certificates, counterexamples, covering, deciding, smt_formulas, systems, z3_solver
+from sigc.prove import certificates, counterexamples, covering, deciding, shortening, smt_formulas, systems, z3_solver
 from sigc.prove.drawn_flows import Drawing, Wanted
 from sigc.prove.counterexamples import flows_text, meets, run_of, shown
 from sigc.prove.questions import UNASKED, Asked, refused
@@ -181,16 +181,15 @@ class Prover:
 
     def refute(self, claim, verdict, is_true, property_):
         """Tells a claim that is false, once sigc has run the flows to it."""
-        text = flows_text(self.asked, verdict.flows)
-        ran = run_of(self.asked, text)
-        number = counterexamples.broken_at(ran.instants, is_true, property_)
-        if number is None or not meets(self.asked, ran.instants[:number]):
+        flows, instants, number = shortening.shortened(self.asked, verdict.flows, is_true, property_)
+        text = flows_text(self.asked, flows)
+        if number is None:
             print(f"unknown: {claim.text}: the flows found do not break it")
             self.answer(2)
             return
-        print(f"false: {claim.text}: broken at instant {number}")
+        print(f"false: {claim.text}{counterexamples.place_of(claim.text, self.asked.home)}: broken at instant {number}")
         names = list(dict.fromkeys([*property_.signals(), *self.asked.inputs]))
-        self.tell_flows(text, shown(ran.instants[:number], names, self.asked.home))
+        self.tell_flows(text, shown(instants[:number], names, self.asked.home))
         self.answer(1)
 
     def end(self, what, formula, fault=None):

@@ -14,14 +14,14 @@ line, how it ends. Of a folder each NAME.sig is run with NAME.flows and with eac
 file .want of that name; --update writes these files instead. The status is 1 where something differs.
 
 With --measure nothing of the run is written: it is made several times with several numbers of workers and capacities, in turn
-with runs without workers, and what each takes beside those is told, with the words that are best. Before it begins standard
+with runs without workers, and it prints what each takes compared with those, and the best arguments. Before it begins standard
 error says how long that takes. It keeps to a minute, or to --seconds N: of a long run fewer numbers are tried.
 
 With --watch E, a boolean expression over the signals of the program, those of calls too, the run stops at the first instant
-at which E comes and is false, which is told, with status 1; with --want FILE too, a run that keeps E true is compared.
-tools/sigc-prove asks so of all flows.
+at which E comes and is false, and prints it, with status 1; with --want FILE too, a run that keeps E true is compared.
+tools/sigc-prove checks so for all flows.
 
-With --cover nothing of a run is written either: what was not reached by it, or by all runs of a folder, is told by its place
+With --cover nothing of a run is written either: what was not reached by it, or by all runs of a folder, is printed with its place
 in the program: clocks that never ticked, conditions that were never true or never false, and branches of a `default` that
 never gave the value. The status is 1 where less was reached than --least PERCENT says, 100 if it is not given.
 tools/sigc-prove --cover looks for flows that reach the rest.

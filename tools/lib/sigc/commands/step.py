@@ -1,10 +1,10 @@
-"""Runs a program one instant at a time: asks for the inputs that are due, shows every signal, and goes on and back.
+"""Runs a program one instant at a time: prompts for the inputs that are due, shows every signal, and goes on and back.
 
     tools/sigc-step examples/pump.sig
     tools/sigc-step examples/pump.sig --flows examples/pump.flows
 
 At a terminal an empty line runs the next instant. For each input that is due and has no value, sigc-step shows its kind, when
-it is present, and in brackets its last value, which an empty line takes. A command may stand in place of a value. The commands
+it is present, and in brackets its last value, which an empty line takes. A command may take the place of a value. The commands
 are
 
 COMMANDS
@@ -121,7 +121,7 @@ def main():
     told = __doc__.replace("COMMANDS", "\n".join(dialogues.help_lines()))
     words = argparse.ArgumentParser(prog="sigc-step", description=told, formatter_class=argparse.RawDescriptionHelpFormatter)
     words.add_argument("program", metavar="PROGRAM", help="the file of a program")
-    words.add_argument("--flows", metavar="FILE", help="a flow file: its values come before any that sigc-step asks for")
+    words.add_argument("--flows", metavar="FILE", help="a flow file: its values come before any that sigc-step prompts for")
     words.add_argument("--pace", action="store_true", help=traces.PACE_HELP)
     opened.add_include(words)
     words = words.parse_args()

@@ -10,7 +10,7 @@ in which it has a value. `rows` writes the inputs and the outputs of a run, or w
 writes a trace.
 
 A flow does not say at which instants its values come: the program decides that. So `check` runs the program with the
-flows of the table, and tells the first row in which it takes another input than the table has, or none, or gives
+flows of the table, and prints the first row in which it takes another input than the table has, or none, or gives
 another output; a row without any value is left out. Values may be spelled as spreadsheets do: TRUE and FALSE.
 
 The program is the file that the variable SIGC names, or else the script ./sigc at the top of the repository.

@@ -7,7 +7,7 @@ too, and each instant a line, with `.` where a signal is absent. `sigc judge` ac
 with --signals or --from is a part of it, for reading. With --pace the inputs that this adds are shown where --signals
 names them; the whole trace has the signals of the program alone, as `judge` wants it. The end of the run stands on standard error, and the status is
 that of the run. A program that is no kernel (docs/signal.md) is expanded: an array has a column for each element, an
-enumeration its values. The first 1,000 instants stand in columns, the others with one blank between two words.
+enumeration its values. The first 1,000 instants are in columns, the others with one blank between two words.
 
 The program is the file that the variable SIGC names, or else the script ./sigc at the top of the repository.
 """

@@ -3,13 +3,13 @@
     tools/trace2vcd examples/watch.sig examples/watch.flows -o watch.vcd
     tools/trace2vcd examples/watch.trace --program examples/watch.sig > watch.vcd
 
-With a program and its flows every signal of the run is drawn, at the instants that tools/sigc-trace tells, and the end
+With a program and its flows every signal of the run is drawn, at the instants that tools/sigc-trace prints, and the end
 of the run stands on standard error. With one file, that file is a trace. What `sigc run` prints is refused, since it
 does not tell its instants.
 
 An instant takes 10 units of time. A signal that is absent has the value z. An event is of VCD's kind `event`, or with
 --events pulse a wire that is 1 for the first half of its instants. A state of an automaton that sigc-automaton wrote is a
-`string`, its name, which GTKWave shows; with --states number it is an integer. The signals of a call stand in a scope of their own,
+`string`, its name, which GTKWave shows; with --states number it is an integer. The signals of a call have a scope of their own,
 inside that of the process that calls it; of a trace alone it is not known which that is. With -o FILE.vcd there is also
 FILE.gtkw, by which `gtkwave FILE.gtkw` opens with all signals in place, integers as decimals.
 
@@ -202,7 +202,7 @@ def main():
     words = argparse.ArgumentParser(prog="trace2vcd", description=__doc__, formatter_class=argparse.RawDescriptionHelpFormatter)
     words.add_argument("file", metavar="PROGRAM", help="the file of a program, or without FLOWS a trace file")
     words.add_argument("flows", metavar="FLOWS", nargs="?", help="the file of its flows")
-    words.add_argument("--program", metavar="FILE", help="the program of a trace file, which tells kinds and calls")
+    words.add_argument("--program", metavar="FILE", help="the program of a trace file, for its kinds and calls")
     words.add_argument("--events", choices=("event", "pulse"), default="event", help="how events are drawn (default: event)")
     words.add_argument("--states", choices=("name", "number"), default="name", help="how states of automata are drawn (default: name)")
     words.add_argument("-o", "--output", metavar="FILE", help="the file to write, with a save file for GTKWave beside it (default: standard output)")

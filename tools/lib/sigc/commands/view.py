@@ -1,15 +1,15 @@
-"""Writes a page that shows a run: one file of HTML, which asks nothing of the network.
+"""Writes a page that shows a run: one file of HTML, which reads nothing from the network.
 
     tools/sigc-view examples/thermostat.sig examples/thermostat.flows > thermostat.html
 
-The page has the program with its clock tree beside it, which tells when each clock comes, the waveform of all signals,
+The page has the program with its clock tree beside it, which says when each clock comes, the waveform of all signals,
 the clusters with their links, and the end of the run, whose place is marked in the program. Where the pointer stands on a
 signal, its clock, its value and its equations are shown, and it is marked everywhere. The waveform is zoomed by buttons,
 the keys + and -, or the wheel with Ctrl, and the cursor stays in view; a click sets the instant whose values are shown;
 n and p go to the next and the previous change of the chosen signal. Integers have their values where these have room,
 and else are curves, with the least and the greatest value in view. Signals are picked, hidden, dragged to another place,
-sorted and searched, those of a copy folded, and each part of the page is closed by its head. All of that stands in the
-address behind the page's name, as #signal=HEATING&instant=3, which opens it there. The page holds up to 100,000
+sorted and searched, those of a copy folded, and each part of the page is closed by its head. All of that is in the
+address after the page's name, as #signal=HEATING&instant=3, which opens it there. The page holds up to 100,000
 instants; --from and --to choose others.
 
 With --cover the program has marks where the run did not come: clocks that never ticked, conditions that were never true or
@@ -198,7 +198,7 @@ def main():
     words = argparse.ArgumentParser(prog="sigc-view", description=__doc__, formatter_class=argparse.RawDescriptionHelpFormatter)
     traces.add_run_words(words)
     opened.add_include(words)
-    words.add_argument("--cover", action="store_true", help="mark what the run did not reach, as sigc-run --cover tells it")
+    words.add_argument("--cover", action="store_true", help="mark what the run did not reach, as sigc-run --cover prints it")
     words = words.parse_args()
     words.last = min(words.last or words.first + MOST_INSTANTS - 1, words.first + MOST_INSTANTS - 1)
     with running.Files(words.include) as files:

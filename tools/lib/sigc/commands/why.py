@@ -1,14 +1,14 @@
-"""Says why sigc refuses the clocks of a program: the least equations that keep the refusal, and a mend that was tried.
+"""Says why sigc refuses the clocks of a program: the least equations that keep the refusal, and a fix that was tried.
 
     tools/sigc-why p.sig
 
 Where `sigc check` says `no reaction is possible`, `no root`, `clock of X is not determined`, `condition X is forced` or
 `cycle through X`, the place is a declaration, and the fault may be anywhere, also in a called process. All calls are
 expanded, and equations are left out as long as sigc refuses the rest in the same words. What stays is shown, each
-equation with its line; none of them can be left out. Then a mend is looked for, and shown where `check` accepts it.
+equation with its line; none of them can be left out. Then it looks for a fix, and shows one that `check` accepts.
 
 Where it says `8000000 diagram nodes` the booleans are shown that make the guards too large: smaller programs are tried, in
-which one boolean or another is an input. A mend folds these into integers, the comparison of which is one condition.
+which one boolean or another is an input. A fix folds these into integers, the comparison of which is one condition.
 
 An accepted program gets `accepted` and status 0. Any other refusal is said as sigc says it, with status 1.
 """
@@ -82,7 +82,7 @@ def told_home(sigc, home, refusal):
 def main():
     words = argparse.ArgumentParser(prog="sigc-why", description=__doc__, formatter_class=argparse.RawDescriptionHelpFormatter)
     words.add_argument("program", metavar="PROGRAM", help="the file of a program")
-    words.add_argument("--mends", metavar="N", type=int, help="at most N mends (default: 2 where there is no root, else 1; 0: none are tried)")
+    words.add_argument("--mends", metavar="N", type=int, help="at most N fixes (default: 2 where there is no root, else 1; 0: none are tried)")
     opened.add_include(words)
     words = words.parse_args()
     try:
