@@ -328,6 +328,13 @@ ended after 3 instants
         self.assertIn("  PRESS A[0] A[1] A[2] L[0] L[1] L[2] TOTAL GO[0] GO[1] GO[2] SUMS#1.ZS\n3 false 7    8    9    #off #off #lit 18    false true  false 9\n", out)
         self.assertEqual((err, status), ("", 0))
 
+    def test_an_element_beside_a_queue(self):
+        """A queue of arrays has whole arrays: where an element is given by itself, the one that waits for it is passed over."""
+        lines = ["always PRESS false", "watch A", "set A [3,4,5] [6,7,8]", "A[0]=9", "step", "back 2", "step", "step", "back 2", "A=[1,1,1]", "step 2"]
+        out, err, status = self.said(lines, self.row)
+        self.assertEqual(re.findall(r"A (\[.*\])", out), ["[9,4,5]", "[6,7,8]", "[3,4,5]", "[6,7,8]", "[1,1,1]", "[3,4,5]", "[6,7,8]"])
+        self.assertEqual((err, status), ("", 0))
+
     def test_what_is_refused(self):
         for line, why in [("A=[1,2]", "A has 3 elements, and here are 2 values"), ("A[3]=1", "A[3] is no input"), ("A[1]=x", "A[1] is an integer"), ("until L[0] = #dim", "#dim is no value of an enumeration"), ("show B", "B is no signal")]:
             with self.subTest(line):

@@ -33,11 +33,13 @@ class Session:
     """A run so far. given has the values that each input took, waiting those that it takes next, always the value that it
     takes where none waits, undone those that it took in instants that were taken back, the last one first.
 
-    taken has for each instant the inputs that took a value, each with whether that was one that waited.
+    taken has for each instant the inputs that took a value, each with whether that was one that waited, and the waiting
+    value that was passed over, or None.
     """
 
     def __init__(self, runs):
         self.runs, self.kinds = runs, runs.kinds
+        self.arrays = list(runs.home.inputs().values())
         self.given = {it: [] for it in self.kinds}
         self.waiting = {it: deque() for it in self.kinds}
         self.undone = {it: [] for it in self.kinds}
@@ -86,24 +88,36 @@ class Session:
 
     def take(self, instant, values):
         """Makes an instant the last one."""
-        taken = []
+        taken, over = [], self.passed_over(instant, values)
         for name in (it for it in self.kinds if it in instant):
             is_waiting = name not in values and bool(self.waiting[name])
+            passed = self.waiting[name].popleft() if name in over else None
             self.given[name].append(self.waiting[name].popleft() if is_waiting else instant[name])
-            taken.append((name, is_waiting))
+            taken.append((name, is_waiting, passed))
         if any(self.undone[it][-1:] not in ([], [instant[it]]) for it in values):
             self.undone = {it: [] for it in self.kinds}
-        for name in (it for it, is_waiting in taken if not is_waiting):
+        for name in (it for it, is_waiting, _ in taken if not is_waiting):
             self.undone[name][-1:] = []
         self.taken.append(self.takings.setdefault(tuple(taken), tuple(taken)))
         self.instant = instant
 
+    def passed_over(self, instant, values):
+        """The elements of arrays that get a value while a neighbour takes one that waits: their own waiting value is passed
+        over, since the queue of an array has whole arrays."""
+        found = set()
+        for elements in self.arrays:
+            if any(it in instant and it not in values and self.waiting[it] for it in elements):
+                found.update(it for it in elements if it in instant and it in values and self.waiting[it])
+        return found
+
     def back(self, count):
         """Takes instants back. The values that had waited wait again; the others are proposed."""
         for taken in (self.taken.pop() for _ in range(min(count, self.count))):
-            for name, is_waiting in taken:
+            for name, is_waiting, passed in taken:
                 value = self.given[name].pop()
                 self.waiting[name].appendleft(value) if is_waiting else self.undone[name].append(value)
+                if passed is not None:
+                    self.waiting[name].appendleft(passed)
         self.end = None
         self.instant = self.runs.instant(self.given, self.count)[0] if self.taken else {}
 
