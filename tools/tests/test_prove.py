@@ -49,6 +49,12 @@ HELD = (
     "(| M := ((A * 1000 + 7) when B) default ZM | ZM := M $ init 0 | N := ((ZM * 3) when B) default ZN | ZN := N $ init 0\n"
     " | A ^= B ^= M ^= N | Y := ZN * ZN * ZN |) where integer M, ZM, N, ZN; end;\n"
 )
+ROOT = """constant integer TWO = 2;
+process P = (? [2] integer T ! integer Q, N)
+(| Q := 100 / (T[0] * T[0] - TWO * T[1] * T[1])
+ | N := Q / 3 + T[0]
+ |);
+"""
 LATE = "process P = (? integer A ! integer Y) (| Y := 7 / ((A $ init 1) - 1 + 1) |);\n"
 ADDS = "process P = (? integer A ! integer N) (| N := (N $ init 0) + A |);\n"
 CHECKED = "process P = (? integer A ! integer Y; boolean SMALL) (| Y := A + 100 | SMALL := A < 100 |);\n"
@@ -307,6 +313,14 @@ class Claims(unittest.TestCase):
             until = time.monotonic() + 300
             self.assertEqual(induction.kept(systems.System(step, [], {"A": (0, 50)}), ["(<= 0 m0 50007)"], until), ["(<= 0 m0 50007)"])
             self.assertEqual(induction.kept(systems.System(step, [], {"A": (0, 50)}), ["(<= 0 m0 50006)"], until), [])
+
+    def test_the_reason_of_an_end_that_is_not_decided(self):
+        """No square is twice another one, which z3 does not know; of all operations the division alone is the reason."""
+        with tempfile.TemporaryDirectory() as folder:
+            path = written(folder, "p.sig", ROOT)
+            said = ran("sigc-prove", path, "--never-ends", "--range", "T=1..100000", "--seconds", "5")
+            self.assertEqual((said.returncode, said.stdout.splitlines()[1:]), (2, [f"  not decided: division by zero at {path}:3:13 (Q)"]), said.stdout)
+            self.assertTrue(said.stdout.startswith("unknown: never ends (5 s"))
 
     def test_deep_faults(self):
         """What breaks late is found, by drawn flows and by one question of many instants; how far a search came is said."""

@@ -17,6 +17,8 @@ computes what stands before the operation that fails, in the order of the image,
 its signals stand before that operation, and else nothing is assumed: the result that overflowed is no value of the run, so
 `N < 1000` says nothing of it. What is proved so holds of each run that meets the assumptions as far as it has values.
 
+If --never-ends is unknown, the operations that are not decided by themselves follow with their places; that takes as long again.
+
 With --cover FOLDER, the folder of the program, the flow files that stand there are run, and for all that they do not reach
 (as sigc-run --cover prints it) flows are looked for that reach it, or it is proved that no run does. They are written into the
 folder as NAME.cover1.flows, with what sigc says of them as NAME.cover1.want. The status is 2 where something is not known.
@@ -32,6 +34,7 @@ where one is not decided in time, 3 if no query was possible, or no flows meet w
 import argparse
 import os
 import sys
+import time
 
 from sigc.call import opened, running
 from sigc.commands.run import pairs_of
@@ -93,10 +96,10 @@ class Prover:
         order = {0: 0, 3: 1, 2: 2, 1: 3}
         self.worst = max(self.worst, status, key=order.get)
 
-    def decide(self, claim, wanted):
+    def decide(self, claim, wanted, seconds=None):
         self.told.about = claim.text
         try:
-            return deciding.decided(self.system, claim, self.words.seconds, self.told, lambda until: self.drawn(wanted, until))
+            return deciding.decided(self.system, claim, seconds or self.words.seconds, self.told, lambda until: self.drawn(wanted, until))
         except z3_solver.Gone as error:
             self.told()
             print(f"note: {error}", file=sys.stderr)
@@ -134,8 +137,7 @@ class Prover:
             self.end("never ends", any_)
         if self.words.faults:
             for it, formula in zip(self.system.step.faults, each):
-                line, column = self.asked.built.place(it.line, it.column)
-                self.end(f"no {it.what} at {self.asked.home.place(line, column)}{counterexamples.of_target(self.asked.home.name(it.target))}", formula, it)
+                self.end(f"no {it.what} at {self.fault_place(it)}", formula, it)
             if not self.system.step.faults:
                 print("proved: no operation can overflow or divide by zero")
         return self.worst
@@ -198,10 +200,31 @@ class Prover:
         verdict = self.decide(claim, Wanted(order=fault.order, what=fault.what) if fault else Wanted())
         if verdict.word == "proved":
             self.proved(claim, verdict)
-            return
-        if verdict.word == "unknown":
+        elif verdict.word == "unknown":
             self.unknown(claim, verdict)
-            return
+            self.tell_reasons(() if fault else self.system.step.faults)
+        else:
+            self.refute_end(what, verdict, fault)
+
+    def tell_reasons(self, faults):
+        """Says of an end that is not decided which operations are the reason: those that are not decided by themselves in
+        a share of the time."""
+        pairs = [it for it in zip(faults, self.system.ends()[1]) if not deciding.is_soon_proved(self.system, it[1])]
+        until = time.monotonic() + self.words.seconds
+        for number, (it, formula) in enumerate(pairs):
+            what = f"{it.what} at {self.fault_place(it)}"
+            seconds = max(1, int((until - time.monotonic()) / (len(pairs) - number)))
+            claim = systems.Claim(f"no {what}", formula, "true", True)
+            word = self.decide(claim, Wanted(order=it.order, what=it.what), seconds).word if time.monotonic() < until else "unknown"
+            if word != "proved":
+                print(f"  {'not decided' if word == 'unknown' else 'may come'}: {what}")
+
+    def fault_place(self, it):
+        """Where an operation is that may have no value, and its signal."""
+        return f"{self.asked.home.place(*self.asked.built.place(it.line, it.column))}{counterexamples.of_target(self.asked.home.name(it.target))}"
+
+    def refute_end(self, what, verdict, fault):
+        """Tells the end of a run, once sigc has run the flows to it."""
         text = flows_text(self.asked, verdict.flows)
         ran = run_of(self.asked, text)
         is_meant = ran.fault and (fault is None or ran.fault == (fault.what, *self.asked.built.place(fault.line, fault.column)))

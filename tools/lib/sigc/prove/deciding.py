@@ -15,6 +15,8 @@ from sigc.prove.smt_formulas import both
 FIRST_DEPTH = 6
 # How many seconds flows are drawn for one claim.
 MOST_DRAWING = 3
+# How many seconds a short query has.
+SOON = 2
 
 
 class Proof(NamedTuple):
@@ -116,6 +118,15 @@ class Decision:
 def decided(system, claim, seconds, tell, drawn=lambda _: None):
     """The verdict on a claim within a number of seconds; `drawn` looks for flows by runs until a time."""
     return Decision(system, claim, seconds, tell, drawn).verdict()
+
+
+def is_soon_proved(system, formula):
+    """Whether what was found of all memories keeps one formula from coming: one short query."""
+    invariants = [*system.known.get("intervals", ()), *system.known.get("bounds", ())]
+    try:
+        return formula == "false" or by_induction(system, formula, invariants, 1, time.monotonic() + SOON, lambda _: None) > 0
+    except z3_solver.Late:
+        return False
 
 
 def may_come(system, formula, seconds):
