@@ -8,6 +8,7 @@ import subprocess
 import sys
 import tempfile
 import unittest
+from unittest import mock
 
 from calling import SIGC, TOOLS, needs_sigc, ran, written
 import wider
@@ -102,6 +103,24 @@ class Wider(unittest.TestCase):
         done = ran("sigc-caret", "run", self.row, self.over)
         self.assertIn(f"{self.room}/ADDS.sig:3:15: note: overflow after 1 instants\n", done.stderr)
         self.assertEqual(done.stdout, f"L [#lit,#off,#off]\nTOTAL {wider.LARGE}\n")
+
+    def test_paces(self):
+        """Clocks may stay independent with --pace, also of a program that has arrays."""
+        path = written(self.room, "two.sig", "constant integer N = 2;\nprocess P = (? [N] integer T; integer V ! [N] integer Y; integer Z)\n(| Y := T + 1 | Z := V * N |);\n")
+        flows = written(self.room, "two.flows", "T [1,2] [3,4]\nV 10 20\npace_1 true false true\npace_2 true true false\n")
+        self.assertIn("      or leave them independent: with --pace", ran("sigc-caret", "check", path).stderr)
+        self.assertEqual(ran("sigc-caret", "check", path, "--pace").stderr, "accepted\n")
+        self.assertEqual(ran("sigc-caret", "tree", path, "--pace").stdout, "pace_1 pace_2\n  T[0] T[1] Y[0] Y[1]\n  V Z\n")
+        done = ran("sigc-caret", "run", path, flows, "--pace")
+        self.assertEqual((done.stdout, done.stderr, done.returncode), ("Y [2,3]\nZ 20\nZ 40\nY [4,5]\n", "end: input pace_1 exhausted after 3 instants\n", 0))
+
+    def test_a_sigc_that_is_missing(self):
+        with mock.patch.dict(os.environ, {"SIGC": f"{self.room}/none"}):
+            for script, words in [("sigc", ["run", self.row, self.flows]), ("sigc", ["check", self.row]), ("sigc-run", [self.row, self.flows]), ("sigc-step", [self.row])]:
+                with self.subTest(script):
+                    done = ran(script, *words)
+                    self.assertIn(f"{self.room}/none: No such file or directory\n", done.stderr)
+                    self.assertEqual(done.returncode, 70)
 
     def test_sigc_clocks(self):
         self.assertEqual(ran("sigc-clocks", self.row).stdout, f"{' '.join(TRACE.splitlines()[0].split())}: at every instant\n")

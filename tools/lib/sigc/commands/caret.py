@@ -312,7 +312,7 @@ def called(words, names, flags, include=()):
     path = os.environ.get("SIGC") or f"{TOP}/sigc"
     command = words[0] if words[0] in COMMANDS else ""
     plain = plain_words(words) if command else []
-    status = expanded(path, command, words, plain, include, names) if plain and command != "exec" and "--pace" not in words else None
+    status = expanded(path, command, words, plain, include, names) if plain and command != "exec" else None
     if status is not None:
         return status
     shown = Shown(path, plain, command, flags + [it for it in words if it == "--pace"])

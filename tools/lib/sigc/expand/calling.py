@@ -13,6 +13,7 @@ from sigc.read import files_read, shown_places
 
 FLOW_FILES = ("run", "play")
 OUT_OF_RANGE = "index out of range"
+OF_PACE = "or leave them independent: with --pace each of their clocks gets a boolean input, pace_1 and so on, that says when it comes"
 
 
 def expansion_of(path: str, include=()) -> Expansion | None:
@@ -83,7 +84,7 @@ class Led:
     def run(self, words: list[str]) -> int:
         """Calls sigc, and shows what it writes."""
         told = [self.files.get(it, it) for it in words]
-        with subprocess.Popen([self.path, *told], stdout=subprocess.PIPE, stderr=subprocess.PIPE) as ran:
+        with started(self.path, told) as ran:
             self.outputs(ran.stdout)
             said = ran.stderr.read().decode("latin-1").removeprefix(compiler.UNPROVED)
             status = ran.wait()
@@ -133,7 +134,13 @@ class Led:
         text = self.found.said(refusal.text)
         at = self.found.at(refusal.line, refusal.col) if refusal.line else None
         entry = entry_of(refusal.text)
-        return placed(at, "error", text, [f"see docs/errors.md#{entry}"] if entry else []) + self.responsible(refusal, at)
+        lines = [*self.of_pace(refusal), *([f"see docs/errors.md#{entry}"] if entry else [])]
+        return placed(at, "error", text, lines) + self.responsible(refusal, at)
+
+    def of_pace(self, refusal: compiler.Refusal) -> list[str]:
+        """The flag --pace where sigc takes it."""
+        is_meant = refusal.text.startswith("no root") and compiler.Sigc(self.path).takes_pace(self.found.kernel)
+        return [OF_PACE] if is_meant else []
 
     def responsible(self, refusal: compiler.Refusal, first: At | None) -> str:
         """The places of the user's text that keep a refusal of clocks."""
@@ -148,13 +155,22 @@ class Led:
         return "".join(placed(it, "note", words) for it, words in places.items() if it != first)
 
 
+def started(path: str, words: list[str]) -> subprocess.Popen:
+    """sigc at work; NoProgram where there is none."""
+    try:
+        return subprocess.Popen([path, *words], stdin=subprocess.DEVNULL, stdout=subprocess.PIPE, stderr=subprocess.PIPE)
+    except OSError as error:
+        raise compiler.NoProgram(f"{path}: {error.strerror}") from None
+
+
 def stops_alike(found: Refused, path: str, program: str) -> bool:
     """Whether sigc's own reader stops where this one does: then the text is a kernel that has a mistake, and sigc's hints help more."""
     if found.text != "syntax" or not found.at or len(found.advice) > 1:
         return False
     place = found.at.place
-    said = subprocess.run([path, "check", program], capture_output=True, text=True, stdin=subprocess.DEVNULL, errors="replace")
-    return said.stderr.startswith(f"error {place.line}:{place.col}: ")
+    with started(path, ["check", program]) as ran:
+        _, said = ran.communicate()
+    return said.decode("latin-1").startswith(f"error {place.line}:{place.col}: ")
 
 
 def called(path: str, command: str, words: list[str], plain: list[str], include=(), tell=None) -> int | None:
@@ -183,5 +199,5 @@ def called(path: str, command: str, words: list[str], plain: list[str], include=
         except BrokenPipeError:
             raise
         except OSError:
-            tell(f"error: {plain[1]}: not found\n")
+            tell(f"error: {plain[1]}: not found\n" if len(plain) > 1 else f"error: {room}: write failed\n")
             return 5
