@@ -109,7 +109,7 @@ class Wider(unittest.TestCase):
         path = written(self.room, "two.sig", "constant integer N = 2;\nprocess P = (? [N] integer T; integer V ! [N] integer Y; integer Z)\n(| Y := T + 1 | Z := V * N |);\n")
         flows = written(self.room, "two.flows", "T [1,2] [3,4]\nV 10 20\npace_1 true false true\npace_2 true true false\n")
         self.assertIn("      or leave them independent: with --pace", ran("sigc-caret", "check", path).stderr)
-        self.assertEqual(ran("sigc-caret", "check", path, "--pace").stderr, "accepted\n")
+        self.assertEqual(ran("sigc-caret", "check", path, "--pace").stdout, "accepted\n")
         self.assertEqual(ran("sigc-caret", "tree", path, "--pace").stdout, "pace_1 pace_2\n  T[0] T[1] Y[0] Y[1]\n  V Z\n")
         done = ran("sigc-caret", "run", path, flows, "--pace")
         self.assertEqual((done.stdout, done.stderr, done.returncode), ("Y [2,3]\nZ 20\nZ 40\nY [4,5]\n", "end: input pace_1 exhausted after 3 instants\n", 0))
