@@ -27,6 +27,16 @@ false 4    5    6    #off #lit #off 9     true  false false 3
 false 7    8    9    #off #off #lit 18    false true  false 9
 """
 
+# An automaton that defines Y at 6:22 and 7:21 if a line with another definition comes before it.
+CLASH = """type MODE = enum (off, on);
+process P = (? event TICK; boolean GO; integer A ! MODE M; integer Y)
+(| M ^= TICK ^= GO
+{} | automaton M
+     state off do (| Y := 0 |) until GO go on
+     state on do (| Y := 1 |) until GO go off
+   end
+{} |);
+"""
 NAMED = """constant integer N = 3, MOST = 90;
 type A = enum (red, green);
 type B = enum (green, red);
@@ -121,6 +131,19 @@ class Wider(unittest.TestCase):
                     done = ran(script, *words)
                     self.assertIn(f"{self.room}/none: No such file or directory\n", done.stderr)
                     self.assertEqual(done.returncode, 70)
+
+    def test_a_clash_with_an_automaton(self):
+        """It is where the states define the signal, not where the automaton begins."""
+        told = "have to exclude each other: they never come together"
+        path = written(self.room, "clash.sig", CLASH.format(" | Y := A\n", ""))
+        said = ran("sigc-caret", "check", path).stderr
+        self.assertTrue(said.startswith(f"{path}:6:22: error: Y is defined twice\n"), said)
+        self.assertIn(f"      the other definition is at {path}:4:4\n", said)
+        for lines, place, other in [((" | Y ::= A\n", ""), "6:22", "4:4"), (("", " | Y ::= A\n"), "8:4", "5:22")]:
+            path = written(self.room, "clash.sig", CLASH.format(*lines))
+            wanted = f"{path}:{place}: note: this definition of Y and the one at {path}:{other} {told}\n"
+            self.assertIn(wanted, ran("sigc-caret", "check", path).stderr)
+            self.assertIn(wanted, ran("sigc-why", path).stdout)
 
     def test_sigc_clocks(self):
         self.assertEqual(ran("sigc-clocks", self.row).stdout, f"{' '.join(TRACE.splitlines()[0].split())}: at every instant\n")

@@ -72,6 +72,7 @@ def told_home(sigc, home, refusal):
     told = {}
     for it in advice.notes(refusal):
         told.setdefault(home.expansion.at(it.line, it.col), home.words(it.words))
+        told.update(home.expansion.exclusions(it.line, it.col))
     for place, words in told.items():
         print(calling.placed(place, "note", words), end="")
     if large_guards.is_told(refusal.text):

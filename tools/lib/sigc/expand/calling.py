@@ -13,6 +13,7 @@ from sigc.read import files_read, shown_places
 
 FLOW_FILES = ("run", "play")
 OUT_OF_RANGE = "index out of range"
+RESPONSIBLE = "this is one of the equations responsible"
 OF_PACE = "or leave them independent: with --pace each of their clocks gets a boolean input, pace_1 and so on, that says when it comes"
 
 
@@ -151,7 +152,10 @@ class Led:
 
         notes = all_advice.Advice(compiler.Sigc(self.path), syntax.read(self.found.kernel)).notes(refusal)
         is_large = large_guards.is_told(refusal.text)
-        places = {self.found.at(it.line, it.col): home_words(self.found, it.words) if is_large else "this is one of the equations responsible" for it in notes}
+        places: dict[At, str] = {}
+        for it in notes:
+            places.setdefault(self.found.at(it.line, it.col), home_words(self.found, it.words) if is_large else RESPONSIBLE)
+            places.update(self.found.exclusions(it.line, it.col))
         return "".join(placed(it, "note", words) for it, words in places.items() if it != first)
 
 

@@ -167,4 +167,4 @@ def merge(name: str, parts: list[Signal], scope: Scope, at: At) -> None:
                 unit.signals.pop(it)
         if defined:
             terms = [Term("name", of.kind, at, [], it) for it in defined]
-            unit.defined(names[0], Definition(chained(terms, of.kind, at), at, None, True))
+            unit.defined(names[0], Definition(chained(terms, of.kind, at), at, None, True, unit.definitions[defined[0]][0].place()))

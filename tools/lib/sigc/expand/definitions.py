@@ -18,9 +18,14 @@ class KernelSignal:
 @dataclass(slots=True)
 class Definition:
     """What defines a signal: a value, the beat by which bare constants come if not by the signal, and whether it may be one
-    of several that never come together."""
+    of several that never come together. Of a case or an automaton `written` is where its branches first define the signal."""
 
     term: Term
     at: At
     pace: Term | None = None
     is_partial: bool = False
+    written: At | None = None
+
+    def place(self) -> At:
+        """Where the text defines the signal."""
+        return self.written or self.at

@@ -65,6 +65,15 @@ class Expansion:
         """The user's place of a place of the kernel, FILE:LINE:COLUMN, with the turns of iterations and the call."""
         return str(self.at(line, col))
 
+    def exclusions(self, line: int, col: int) -> dict[At, str]:
+        """The definitions that exclude each other which an equation of the kernel is about, with words: it lets them do so,
+        or merges them."""
+        if self.unit is None:
+            return {}
+        at, left = self.at(line, col), re.match(r"[( ]\|+ (\w+) := ", self.kernel.split("\n")[line - 1])
+        found = {it: words for one in self.unit.exclusions.values() for it, words in one.items() if it == at}
+        return found | self.unit.exclusions.get(left[1] if left else "", {})
+
     def is_index(self, line: int, col: int) -> bool:
         """Whether a division of the kernel stands for an index, and a divisor 0 for one out of range."""
         return self.written is not None and (line, col) in self.written.faults

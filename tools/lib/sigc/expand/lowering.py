@@ -9,6 +9,11 @@ from sigc.expand.unit import Unit
 NEVER = "never"
 
 
+def placed_at(term: Term, at: At) -> Term:
+    """The same term, all of which is at one place."""
+    return Term(term.op, term.kind, at, [placed_at(it, at) for it in term.parts], term.data)
+
+
 class Lowering:
     """The equations of a kernel, in their order: definitions as (name, term, at), clock equations as (None, terms, at)."""
 
@@ -39,15 +44,17 @@ class Lowering:
         for it in parts[1:]:
             merged = Term("default", kind, it.at, [merged, it])
         self.equations.append((name, merged, at))
-        self.exclude(parts)
+        self.exclude(name, parts, [it.place() for it in found])
 
-    def exclude(self, parts: list[Term]) -> None:
+    def exclude(self, name: str, parts: list[Term], places: list[At]) -> None:
         """No two of these come together."""
         union = parts[0]
-        for it in parts[1:]:
-            never = Term("^-", EVENT, it.at, [parts[0], parts[0]])
-            self.equations.append((None, [Term("^*", EVENT, it.at, [union, it]), never], it.at))
-            union = Term("^+", EVENT, it.at, [union, it])
+        for number, (it, at) in enumerate(zip(parts[1:], places[1:]), 1):
+            never = Term("^-", EVENT, at, [parts[0], parts[0]])
+            self.equations.append((None, [placed_at(Term("^*", EVENT, at, [union, it]), at), never], at))
+            others = " and ".join(str(other.place) for other in dict.fromkeys(places[:number]))
+            self.unit.exclusions.setdefault(name, {}).setdefault(at, f"this definition of {self.unit.names.user(name)} and the one at {others} have to exclude each other: they never come together")
+            union = Term("^+", EVENT, at, [union, it])
 
     def emit(self, name: str, found: Definition, signal: Term) -> None:
         """The equation of one definition; a bare constant comes by its pace, or with the signal."""

@@ -25,6 +25,7 @@ class Unit:
     scope: object = None
     values: dict[str, int] = field(default_factory=dict)
     counts: dict[str, int] = field(default_factory=dict)
+    exclusions: dict[str, dict[At, str]] = field(default_factory=dict)
 
     def __post_init__(self):
         self.comparisons = Comparisons(self)
@@ -49,8 +50,8 @@ class Unit:
         if not earlier:
             self.order.append(name)
         if earlier and not (definition.is_partial and earlier[0].is_partial):
-            told = f"the other definition is at {earlier[0].at}"
-            raise Refused(definition.at, f"{self.names.user(name)} is defined twice", told)
+            told = f"the other definition is at {earlier[0].place()}"
+            raise Refused(definition.place(), f"{self.names.user(name)} is defined twice", told)
         earlier.append(definition)
 
     def named(self, term: Term, wanted: str, pace: Term | None, shown: str = "") -> Term:
