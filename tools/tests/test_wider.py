@@ -37,6 +37,18 @@ process P = (? event TICK; boolean GO; integer A ! MODE M; integer Y)
    end
 {} |);
 """
+TWO = """constant integer N = 2;
+process P = (? [N] integer T; integer V ! [N] integer Y; integer Z)
+(| Y := T + 1
+ | Z := V * N
+ |);
+"""
+CYCLE = """constant integer N = 2;
+process P = (? integer V ! integer Z, Y)
+(| Z := Y * N + V
+ | Y := Z + 1
+ |);
+"""
 NAMED = """constant integer N = 3, MOST = 90;
 type A = enum (red, green);
 type B = enum (green, red);
@@ -106,6 +118,21 @@ class Wider(unittest.TestCase):
         self.assertEqual(done.returncode, 1)
         self.assertEqual(ran("sigc-why", self.row).stdout, "accepted\n")
         self.assertIn(":7:20: error: unknown name GI\n", ran("sigc-why", self.with_fault("if GO[?]", "if GI[?]")).stdout)
+
+    def test_fixes_of_sigc_why(self):
+        """They change the user's text, and sigc accepts what comes of them."""
+        path = written(self.room, "two.sig", TWO)
+        done = ran("sigc-why", path)
+        self.assertIn("mend, accepted by check: the clock equation T[0] ^= V\n    5 +  | T[0] ^= V\n", done.stdout)
+        self.assertIn(f"mend, accepted by check: sigc check {path} --pace\n", done.stdout)
+        self.assertIn("    2 + process P = (? boolean T_0_COMES; boolean V_COMES; [N] integer T; integer V", done.stdout)
+        mended = written(self.room, "mended.sig", TWO.replace(" |);", " | T[0] ^= V\n |);"))
+        self.assertEqual(ran("sigc-why", mended).stdout, "accepted\n")
+        path = written(self.room, "cycle.sig", CYCLE)
+        done = ran("sigc-why", path)
+        self.assertIn("    4 -  | Y := Z + 1\n    4 +  | Y := (Z $ init 0) + 1\n", done.stdout)
+        self.assertIn(f"with this, Y is 1 where the equation at {path}:4:4 gives", done.stdout)
+        self.assertNotIn("mend", ran("sigc-why", path, "--mends", "0").stdout)
 
     def test_sigc_caret(self):
         path = self.with_fault(*FORCED)

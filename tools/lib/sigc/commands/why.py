@@ -23,6 +23,8 @@ from sigc.read import shown_places, syntax
 from sigc.why import causes, folding, large_guards, mending
 
 
+# How many fixes of a kernel are looked at: not each can be written in the user's text.
+MOST_OF_KERNEL = 4
 SEE_IDIOM = "      see docs/idioms.md#12-many-booleans-that-decide-one-thing"
 
 
@@ -62,8 +64,19 @@ def shown_large(sigc, path, text):
     return f"{shown}{SEE_IDIOM}\n"
 
 
-def told_home(sigc, home, refusal):
-    """Tells a refusal of the kernel of a program that is none, at the places of the user's text; mends there are none."""
+def shown_user_mends(sigc, home, told, most, include):
+    """The fixes of a program that has a kernel, in its own text."""
+    from sigc.why import user_mends
+
+    found = user_mends.of_user(sigc, home, mending.mends_of(sigc, home.text, MOST_OF_KERNEL), include)[:most]
+    shown = "".join(f"mend, accepted by check: {it.words}\n{shown_places.changes(home.source, it.text)}{''.join(f'    {note}{chr(10)}' for note in it.notes)}" for it in found)
+    if told.sort == "root" and sigc.takes_pace(home.text):
+        shown += f"mend, accepted by check: sigc check {home.path} --pace\n"
+    return shown or "no mend was found among those that were tried\n"
+
+
+def told_home(sigc, home, refusal, words):
+    """Tells a refusal of the kernel of a program that is none, at the places of the user's text, and fixes of this text."""
     from sigc.expand import calling
 
     at = home.expansion.at(refusal.line or 1, refusal.col or 1)
@@ -73,10 +86,13 @@ def told_home(sigc, home, refusal):
     for it in advice.notes(refusal):
         told.setdefault(home.expansion.at(it.line, it.col), home.words(it.words))
         told.update(home.expansion.exclusions(it.line, it.col))
-    for place, words in told.items():
-        print(calling.placed(place, "note", words), end="")
+    for place, said in told.items():
+        print(calling.placed(place, "note", said), end="")
     if large_guards.is_told(refusal.text):
         print(SEE_IDIOM)
+    clocks, most = causes.told_of(refusal.text), words.mends if words.mends is not None else 2
+    if clocks and most > 0:
+        print(shown_user_mends(sigc, home, clocks, most, words.include), end="")
     return 1
 
 
@@ -97,7 +113,7 @@ def main():
         print("accepted")
         return 0
     if not home.is_kernel:
-        return told_home(sigc, home, refusal)
+        return told_home(sigc, home, refusal, words)
     print(shown_places.placed(words.program, refusal.line or 1, refusal.col or 1, "error", refusal.text, text=text), end="")
     told = causes.told_of(refusal.text)
     if large_guards.is_told(refusal.text):
