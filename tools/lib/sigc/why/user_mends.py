@@ -16,6 +16,7 @@ from sigc.why.mending import Mend
 EQUATION = re.compile(r" \| (.*)")
 NAME = re.compile(r"[A-Za-z]\w*")
 PART = re.compile(r"[A-Za-z]\w*(?:\[[^\]]*\])*")
+LAST_NAME = re.compile(r"[A-Za-z]\w*\Z")
 PLACE = re.compile(r"\bat (\d+):(\d+)")
 
 
@@ -69,12 +70,17 @@ class UserText:
         """The change of a name in a line of the kernel, at the user's place."""
         it = difference(old, new)
         name, at = old[it.start : it.end], self.home.expansion.at(number, it.start + 1).place
-        begin = offset_of(self.text, at.line, at.col)
+        begin = self.begin_of_name(offset_of(self.text, at.line, at.col))
         part = PART.match(self.text, begin)
         if not NAME.fullmatch(name) or at.file != self.home.path or not part or base_of(part[0]) != base_of(self.home.name(name)):
             raise NoForm
         pieces = re.split(rf"\b{name}\b", it.text)
         return Edit(begin, part.end(), part[0].join(map(self.words, pieces)))
+
+    def begin_of_name(self, at: int) -> int:
+        """Where a name begins whose first index is at an offset; another offset as it is."""
+        found = LAST_NAME.search(self.text[:at]) if self.text[at : at + 1] == "[" else None
+        return found.start() if found else at
 
 
 def base_of(name: str) -> str:
