@@ -1,5 +1,6 @@
 """Scripts over programs that are no kernel: each takes one by itself, and shows the user's names, values and places, in files
 that are used too."""
+import itertools
 import json
 import os
 import re
@@ -16,7 +17,7 @@ import wider
 from sigc.call import compiler, opened
 from sigc.call.refusing import Refused
 from sigc.editor import documents
-from sigc.prove import z3_solver
+from sigc.prove import property_language, z3_solver
 from sigc.read import plain_kernels
 
 END = "end: overflow at {0}/ADDS.sig:3:15 in SUMS#1 (called at {0}/row.sig:11:13) after 1 instants"
@@ -69,6 +70,19 @@ class Properties(unittest.TestCase):
         ]:
             with self.subTest(text):
                 self.assertEqual(home.kernel_words(text), wanted)
+
+    def test_the_largest_and_the_smallest_element(self):
+        """Anywhere in an expression, beside other operators and on both sides of a comparison."""
+        home = opened.Opened("p.sig", NAMED)
+        cases = {
+            "max(T) - min(T)": lambda t: max(t) - min(t), "max(T) <= T[0] + 1": lambda t: max(t) <= t[0] + 1, "1 >= max(T)": lambda t: max(t) <= 1, "2 * max(T) <= 2": lambda t: 2 * max(t) <= 2,
+            "min(T) = max(T)": lambda t: min(t) == max(t), "min(T) > T[1] - 1": lambda t: min(t) > t[1] - 1, "max(T) >= 1 and min(T) < 0": lambda t: max(t) >= 1 and min(t) < 0,
+        }
+        for text, wanted in cases.items():
+            made = property_language.property_of(home.kernel_words(text), {f"T_{at}": "integer" for at in range(3)})
+            for values in itertools.product(range(-2, 3), repeat=3):
+                with self.subTest(text, values=values):
+                    self.assertEqual(property_language.Watched(made).at({f"T_{at}": it for at, it in enumerate(values)}), int(wanted(values)))
 
     def test_what_is_refused(self):
         home = opened.Opened("p.sig", NAMED)
@@ -133,6 +147,8 @@ class Wider(unittest.TestCase):
         self.assertIn("    4 -  | Y := Z + 1\n    4 +  | Y := (Z $ init 0) + 1\n", done.stdout)
         self.assertIn(f"with this, Y is 1 where the equation at {path}:4:4 gives", done.stdout)
         self.assertNotIn("mend", ran("sigc-why", path, "--mends", "0").stdout)
+        path = written(self.room, "turns.sig", "process P = (? boolean B; integer V ! [3] integer Z)\n(| array I to 2 of Z[I] := Z[I] + V end\n | V ^= B\n |);\n")
+        self.assertIn("    2 + (| array I to 2 of Z[I] := (Z[I] $ init 0) + V end\n", ran("sigc-why", path).stdout)
 
     def test_sigc_caret(self):
         path = self.with_fault(*FORCED)

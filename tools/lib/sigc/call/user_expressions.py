@@ -1,7 +1,7 @@
 """Expressions over the user's signals, as properties have them: what stands for them over those of the kernel.
 
 Beside names of signals there may be constants of the program, as `HOT[N - 1]`, values of enumerations, of which the signal
-that one is compared with says the type, and `max(T) <= 90` or `min(T) > 0` of an array T.
+that one is compared with says the type, and `max(T)` or `min(T)` of an array T, as `max(T) - min(T) <= 9`.
 """
 import re
 
@@ -11,6 +11,9 @@ WORD = r"[A-Za-z]\w*"
 COMPARED = re.compile(rf"(?P<before>(?<![\w#.])[A-Za-z][\w.#\[\]]*)\s*/?=\s*#(?P<value>{WORD})|#(?P<first>{WORD})\s*/?=\s*(?P<after>[A-Za-z][\w.#\[\]]*)")
 VALUE = re.compile(rf"(?:(?<![\w#.])(?P<type>{WORD}))?#(?P<value>[A-Za-z]\w*)")
 EXTREME = re.compile(rf"\b(max|min)\s*\(\s*({WORD})\s*\)\s*(<=|>=|<|>)\s*([\w.#]+(?:\[[^\]]*\])*)")
+EXTREME_ALONE = re.compile(rf"\b(max|min)\s*\(\s*({WORD})\s*\)")
+# What binds an operand of a comparison closer than the comparison does.
+BINDS_BEFORE, BINDS_AFTER = re.compile(r"(?:[+\-*/]|\bmodulo)\s*\Z"), re.compile(r"\s*(?:[+\-*$]|/(?!=)|modulo\b)")
 
 
 class UserExpressions:
@@ -21,7 +24,7 @@ class UserExpressions:
 
     def kernel(self, text: str) -> str:
         """An expression over the kernel's signals; Refused where a value of an enumeration has no type, or several."""
-        text = EXTREME.sub(self.extreme, self.indexed(text))
+        text = EXTREME_ALONE.sub(self.extreme_alone, EXTREME.sub(self.extreme, self.indexed(text)))
         text = COMPARED.sub(self.compared, text)
         names = "|".join(re.escape(it) for it in sorted(self.expansion.kernel_names, key=len, reverse=True))
         text = re.sub(rf"(?<![\w#.])(?:{names})(?![\w\[.#])", lambda it: self.expansion.kernel_name(it[0]), text)
@@ -50,11 +53,23 @@ class UserExpressions:
     def extreme(self, it: re.Match) -> str:
         """`max(T) <= E` is that of each element, and `max(T) > E` that of one; of `min` the other way."""
         word, name, relation, other = it.groups()
-        elements = [shown for shown in reversed(self.expansion.kernel_names) if re.fullmatch(rf"{re.escape(name)}(?:\[\d+\])+", shown)]
-        if not elements:
+        elements = self.elements(name)
+        if not elements or BINDS_BEFORE.search(it.string[: it.start()]) or BINDS_AFTER.match(it.string[it.end() :]):
             return it[0]
         joint = " and " if (word == "max") == relation.startswith("<") else " or "
         return "(" + joint.join(f"({element} {relation} {other})" for element in elements) + ")"
+
+    def extreme_alone(self, it: re.Match) -> str:
+        """`max(T)` is the first element that is not below another one."""
+        elements, relation = self.elements(it[2]), ">=" if it[1] == "max" else "<="
+        if not elements:
+            return it[0]
+        *parts, last = [(one, " and ".join(f"({one} {relation} {other})" for other in elements if other != one)) for one in elements]
+        return "(" + " default ".join([*(f"({one} when ({holds}))" for one, holds in parts), last[0]]) + ")"
+
+    def elements(self, name: str) -> list[str]:
+        """The elements of an array by the user's names; none of another signal."""
+        return [shown for shown in reversed(self.expansion.kernel_names) if re.fullmatch(rf"{re.escape(name)}(?:\[\d+\])+", shown)]
 
     def compared(self, it: re.Match) -> str:
         """A comparison with a value, which has the type of the signal."""
