@@ -10,6 +10,9 @@ equation with its line; none of them can be left out. Then it looks for a fix, a
 Where it says `8000000 diagram nodes` the booleans are shown that make the guards too large: smaller programs are tried, in
 which one boolean or another is an input. A fix folds these into integers, the comparison of which is one condition.
 
+A program with arrays, cases and the like is shown at its own places. A fix of it changes its own text; fixes of its kernel that
+have no such form are left out.
+
 An accepted program gets `accepted` and status 0. Any other refusal is said as sigc says it, with status 1.
 """
 import argparse
