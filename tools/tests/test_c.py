@@ -531,6 +531,7 @@ class Words(unittest.TestCase):
         self.assertEqual(len({it[:63] for it in found}), len(found))
         self.assertTrue(all(len(it) <= 63 for it in found))
         self.assertEqual(c_names.Names("own").fresh("own_A"), "its_own_A")
+        self.assertEqual(c_names.Names("own_own").fresh("own_own_A"), "its_own_own_A")
 
     def test_names(self):
         names = c_names.Names("P")

@@ -68,7 +68,7 @@ class Names:
 
     def fresh(self, wanted):
         """A name as near as may be to the one that is wanted, which nothing else has."""
-        name, own, tries = re.sub(r"[^A-Za-z0-9_]", "_", wanted)[:MOST_LETTERS], "its" if self.prefix == "own" else "own", 0
+        name, own, tries = re.sub(r"[^A-Za-z0-9_]", "_", wanted)[:MOST_LETTERS], "its" if self.prefix.startswith("own") else "own", 0
         while is_taken(name, self.prefix) or name in self.taken:
             tries += 1
             behind = "_" if len(name) < MOST_LETTERS else f"_{tries}"
