@@ -406,6 +406,7 @@ class AtATerminal(unittest.TestCase):
         typist.until("instant 1> ")
         typist.type("\n")
         typist.until("at every instant: ")
+        time.sleep(1)  # until the prompt reads: a signal before that is seen at the next key only
         typist.type("\x03")
         typist.until("instant 1> ")
         typist.type("\x04")
