@@ -36,7 +36,7 @@ BOUNDS = {
     "docs/proofs.md": 7_040,
     "docs/shipping.md": 22_528,
     "docs/signal.md": 28_672,
-    "docs/spreading.md": 14_848,
+    "docs/spreading.md": 15_360,
     "docs/threads.md": 8_704,
     "docs/top-call.md": 4_096,
     "docs/tutorial.md": 25_344,
